@@ -1,0 +1,4 @@
+-- Definitions of the wire layer: fields, names, and what a list of octets is after a write.
+pub mod Field
+pub mod Name
+pub mod Reading

@@ -1,0 +1,80 @@
+// Names: reading one, comparing two, and one being at or below another.
+ghost use mathlib.Core.Path.{_≡_};
+ghost use Rattle.wire.specs.Name.{lower, sameName, within as isWithin};
+ghost use Rattle.wire.specs.Reading.{nameAt, nameFront};
+
+// What stands at a place: a name of so many octets, the zero octet at its end counted; or no name.
+pub enum NameReading {
+    Name(usize),
+    NoName,
+}
+
+fn name_front(s: &[u8]) -> NameReading
+    ensures { λ r. ⌜ r ≡ nameFront (now (s .entry)) ⌝ }
+{
+    let mut i: usize = 0;
+    while i < s.len() {
+        if 255 <= i {
+            return NameReading::NoName;
+        }
+        let n = s[i] as usize;
+        if n == 0 {
+            return NameReading::Name(i + 1);
+        }
+        if 63 < n {
+            return NameReading::NoName;
+        }
+        i += n + 1;
+    }
+    NameReading::NoName
+}
+
+pub fn name_at(s: &[u8], at: usize) -> NameReading
+    ensures { λ r. ⌜ r ≡ nameAt (now (s .entry)) at ⌝ }
+{
+    if s.len() <= at {
+        return NameReading::NoName;
+    }
+    name_front(&s[at..])
+}
+
+fn lower(b: u8) -> u8
+    ensures { λ r. ⌜ r ≡ lower b ⌝ }
+{
+    if 65 <= b {
+        if b <= 90 {
+            return b + 32;
+        }
+    }
+    b
+}
+
+// Octets of unlike length are told apart without looking at them.
+pub fn same_name(a: &[u8], b: &[u8]) -> bool
+    ensures { λ r. ⌜ r ≡ sameName (now (a .entry)) (now (b .entry)) ⌝ }
+{
+    if a.len() != b.len() {
+        return false;
+    }
+    let mut i = 0;
+    while i < a.len() {
+        if lower(a[i]) != lower(b[i]) {
+            return false;
+        }
+        i += 1;
+    }
+    true
+}
+
+pub fn within(zone: &[u8], name: &[u8]) -> bool
+    ensures { λ r. ⌜ r ≡ isWithin (now (zone .entry)) (now (name .entry)) ⌝ }
+{
+    let mut at: usize = 0;
+    while at < name.len() {
+        if same_name(zone, &name[at..]) {
+            return true;
+        }
+        at += name[at] as usize + 1;
+    }
+    false
+}
