@@ -1,13 +1,14 @@
 -- Laws of fields, once over the width: both round trips, lengths, bounds, splits, and that what follows a field doesn't
 -- change it.
 use Prim.Native.Nat.{ℕ, zero, suc, _+_, _*_, _/_, _%_, _^_, _≤_, _<_}
-use mathlib.Core.Path.{_≡_, refl, sym, ap, _∙_}
+use mathlib.Core.Path.{_≡_, refl, sym, ap, ap₂, _∙_}
 use mathlib.Core.Bool.{Bool, true, false, _&&_}
 use mathlib.Core.List.{List, [], _∷_, _++_}
 use native.Mathlib.Nat.{mod-one, pow-suc, pow-succ', one-le-pow, mod-eq-of-lt, mul-add-div-right, mul-add-mod-self-right, mod-lt, mul-assoc, div-div-eq-div-mul, suc-add, zero-add, add-comm, zero-mul, le-of-suc-le-suc, not-suc-le-zero}
 use native.Mathlib.Omega.{arith}
-use lib.ListN.{length, take, drop, getD}
+use lib.ListN.{length, take, drop, getD, drop-of-length-le}
 use lib.Arith.{mod-mul, digits-lt, digits-div}
+use lib.Seq.{drop-drop}
 use lib.Pow.{pow-add, areBytes}
 use lib.Dec.{lit<, ltb}
 use borrow.Author.Tests.{ltb-true, lt-ltb}
@@ -127,6 +128,24 @@ unfolding field
 field-append zero l r h = refl
 field-append (suc n) [] r h = absurd (not-suc-le-zero h)
 field-append (suc n) (b ∷ l) r h = ap (λ (k : ℕ). b * 256 ^ n + k) (field-append n l r (le-of-suc-le-suc h))
+
+-- ---- a field at a place of a list
+
+pub field-past : (n : ℕ) (l : List ℕ) (at : ℕ) → length l ≤ at → 0 ≡ field n (drop at l)
+field-past n l at h = sym (ap (field n) (drop-of-length-le l h) ∙ field-nil n)
+
+pub field-one : (l : List ℕ) (at : ℕ) → field 1 (drop at l) ≡ getD l at 0
+unfolding field
+field-one [] zero = refl
+field-one [] (suc at) = refl
+field-one (b ∷ l) zero = omega arith
+field-one (b ∷ l) (suc at) = field-one l at
+
+-- Two fields that stand side by side, read as one.
+pub field-join : (n m : ℕ) (l : List ℕ) (at high low : ℕ) → high ≡ field n (drop at l) → low ≡ field m (drop (at + n) l)
+    → high * 256 ^ m + low ≡ field (n + m) (drop at l)
+field-join n m l at high low p q =
+    ap₂ (λ (h k : ℕ). h * 256 ^ m + k) p (q ∙ ap (field m) (sym (drop-drop n at l))) ∙ sym (field-split n m (drop at l))
 
 -- ---- both round trips
 
