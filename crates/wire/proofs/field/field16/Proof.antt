@@ -1,56 +1,31 @@
+-- `wire::field::field16` meets its contract. Assumes nothing.
+use Prim.Native.Nat.{ℕ, _+_, _*_}
+use mathlib.Core.Path.{_≡_, sym, _∙_}
+use mathlib.Core.List.{List}
 use borrow.Author.Needs.{needs}
+use lib.ListN.{getD, drop}
+use Rattle.wire.specs.Field.{field}
+use Rattle.wire.proofs.Fields.{field-past, field-one, field-join}
 use Rattle.wire.proofs.field.field16.Statement.{statement}
 use Rattle.wire.proofs.field.field16.Tie as tie
-use Rattle.wire.proofs.field.field16.Reads as reads
-use Rattle.wire.proofs.field.field16.Lts as lts
-use Rattle.wire.proofs.field.octet.Reads as octet-reads
 
--- src/field.rt:16:9
-returns : tie.Need-returns
-returns c = ?
+two : (l : List ℕ) (at high low : ℕ) → high ≡ getD l at 0 → low ≡ getD l (at + 1) 0 → high * 256 + low ≡ field 2 (drop at l)
+two l at high low p q = field-join 1 1 l at high low (p ∙ sym (field-one l at)) (q ∙ sym (field-one l (at + 1)))
 
--- src/field.rt:18:9
-octet-requires : tie.Need-octet-requires
-octet-requires c κs = search needs
-
--- src/field.rt:19:24
-add-octet : tie.Need-add-octet
-add-octet c = search needs
-
--- src/field.rt:19:9
-octet-requires-2 : tie.Need-octet-requires-2
-octet-requires-2 c κs = search needs
-
--- src/field.rt:20:6
-cast-result : tie.Need-cast-result
-cast-result c = search needs
-
--- src/field.rt:20:5
-mul-result : tie.Need-mul-result
-mul-result c = search needs
-
--- src/field.rt:20:28
-cast-result-2 : tie.Need-cast-result-2
-cast-result-2 c = search needs
-
--- src/field.rt:20:5
-add-result : tie.Need-add-result
-add-result c = search needs
-
--- src/field.rt:12:1
 returns-2 : tie.Need-returns-2
-returns-2 c = ?
+returns-2 c =
+    let a = c .before .before .before .before .args in two (a .s .now) (a .at) _ _ (c .before .octet .ensures) (c .octet2 .ensures)
 
 pub field16-spec : {M : Type 1} → statement M
 field16-spec =
     tie.close
     (tie.spec
-    returns
-    octet-requires
-    add-octet
-    octet-requires-2
-    cast-result
-    mul-result
-    cast-result-2
-    add-result
+    (λ c. search field-past)
+    (λ c κs. search needs)
+    (λ c. search needs)
+    (λ c κs. search needs)
+    (λ c. search needs)
+    (λ c. search needs)
+    (λ c. search needs)
+    (λ c. search needs)
     returns-2)

@@ -1,61 +1,55 @@
+-- `wire::name::name_front` meets its contract. The loop's invariant: the octets before `i` are whole labels. Assumes nothing.
+use Prim.Native.Nat.{_-_}
+use native.Mathlib.Omega.{arith}
+use lib.ListN.{length, length-take}
+use Rattle.wire.specs.Name.{maxName}
+use Rattle.wire.proofs.Loops.{Read, read-none, read-past, read-zero, read-over, read-label}
 use Rattle.wire.proofs.name.name_front.Statement.{statement}
 use Rattle.wire.proofs.name.name_front.Tie as tie
 use Rattle.wire.proofs.name.name_front.Reads as reads
 use Rattle.wire.proofs.name.name_front.Lts as lts
 
 abbrev Inv-loop : tie.InvT-loop
-Inv-loop s i₀ i = ?
+Inv-loop s i₀ i = Read s i
 
 abbrev μ-loop : tie.MeasureT-loop
-μ-loop s i₀ i = ?
+μ-loop s i₀ i = length s - i
 
--- src/name.rt:16:5
 loop-holds : tie.Need-loop-holds Inv-loop μ-loop
-loop-holds c = ?
+loop-holds c = search read-none
 
--- src/name.rt:18:13
 returns : tie.Need-returns Inv-loop μ-loop
-returns c = ?
+returns c = read-past _ _ (c .before .before .loop .inv) (omega (arith, length-take maxName (c .before .before .before .args .s .now)))
 
--- src/name.rt:20:17
 shared-slice-read-n : tie.Need-shared-slice-read-n Inv-loop μ-loop
-shared-slice-read-n c = ?
+shared-slice-read-n c = omega arith
 
--- src/name.rt:20:17
 cast-n : tie.Need-cast-n Inv-loop μ-loop
-cast-n c = ?
+cast-n c = omega (arith, c .shared-slice-known .given (c .before .before .before .loop .i))
 
--- src/name.rt:22:38
 add-t8 : tie.Need-add-t8 Inv-loop μ-loop
-add-t8 c = ?
+add-t8 c = omega arith
 
--- src/name.rt:22:13
 returns-2 : tie.Need-returns-2 Inv-loop μ-loop
-returns-2 c = ?
+returns-2 c = search read-zero
 
--- src/name.rt:25:13
 returns-3 : tie.Need-returns-3 Inv-loop μ-loop
-returns-3 c = ?
+returns-3 c = search read-over
 
--- src/name.rt:27:14
 add-i : tie.Need-add-i Inv-loop μ-loop
-add-i c = ?
+add-i c = omega arith
 
--- src/name.rt:27:9
 add-i-2 : tie.Need-add-i-2 Inv-loop μ-loop
-add-i-2 c = ?
+add-i-2 c = omega arith
 
--- src/name.rt:16:5
 loop-less : tie.Need-loop-less Inv-loop μ-loop
-loop-less c = ?
+loop-less c = omega arith
 
--- src/name.rt:16:5
 loop-again : tie.Need-loop-again Inv-loop μ-loop
-loop-again c = ?
+loop-again c = search read-label
 
--- src/name.rt:12:1
 returns-4 : tie.Need-returns-4 Inv-loop μ-loop
-returns-4 c = ?
+returns-4 c = read-past _ _ (c .before .loop .inv) (omega (arith, length-take maxName (c .before .before .args .s .now)))
 
 pub name-front-spec : {M : Type 1} → statement M
 name-front-spec =

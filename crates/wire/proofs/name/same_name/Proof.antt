@@ -1,3 +1,10 @@
+-- `wire::name::same_name` meets its contract. The loop's invariant: what is left is alike where the whole is. Assumes nothing.
+use Prim.Native.Nat.{_-_}
+use mathlib.Core.Path.{sym, _∙_}
+use native.Mathlib.Omega.{arith}
+use borrow.Author.Needs.{needs}
+use lib.ListN.{length}
+use Rattle.wire.proofs.Loops.{Alike, alike-none, alike-end, alike-turn, unlike-length, unlike-octet}
 use Rattle.wire.proofs.name.same_name.Statement.{statement}
 use Rattle.wire.proofs.name.same_name.Tie as tie
 use Rattle.wire.proofs.name.same_name.Reads as reads
@@ -5,54 +12,47 @@ use Rattle.wire.proofs.name.same_name.Lts as lts
 use Rattle.wire.proofs.name.lower.Reads as lower-reads
 
 abbrev Inv-loop : tie.InvT-loop
-Inv-loop a b i₀ i = ?
+Inv-loop a b i₀ i = Alike a b i
 
 abbrev μ-loop : tie.MeasureT-loop
-μ-loop a b i₀ i = ?
+μ-loop a b i₀ i = length a - i
 
--- src/name.rt:57:9
 returns : tie.Need-returns Inv-loop μ-loop
-returns c = ?
+returns c = search unlike-length
 
--- src/name.rt:60:5
 loop-holds : tie.Need-loop-holds Inv-loop μ-loop
-loop-holds c = ?
+loop-holds c = search alike-none
 
--- src/name.rt:61:18
 shared-slice-read-lower : tie.Need-shared-slice-read-lower Inv-loop μ-loop
-shared-slice-read-lower c = ?
+shared-slice-read-lower c = omega arith
 
--- src/name.rt:61:12
 lower-requires : tie.Need-lower-requires Inv-loop μ-loop
-lower-requires c κs = ?
+lower-requires c κs = search needs
 
--- src/name.rt:61:33
 shared-slice-read-lower-2 : tie.Need-shared-slice-read-lower-2 Inv-loop μ-loop
-shared-slice-read-lower-2 c = ?
+shared-slice-read-lower-2 c = omega arith
 
--- src/name.rt:61:27
 lower-requires-2 : tie.Need-lower-requires-2 Inv-loop μ-loop
-lower-requires-2 c κs = ?
+lower-requires-2 c κs = search needs
 
--- src/name.rt:62:13
 returns-2 : tie.Need-returns-2 Inv-loop μ-loop
-returns-2 c = ?
+returns-2 c =
+    unlike-octet _ _ _ (c .before .before .before .before .before .before .loop .inv) (omega arith)
+    (λ e. c .if2 .taken (c .before .before .before .lower .ensures ∙ e ∙ sym (c .before .lower2 .ensures)))
 
--- src/name.rt:64:9
 add-i : tie.Need-add-i Inv-loop μ-loop
-add-i c = ?
+add-i c = omega arith
 
--- src/name.rt:60:5
 loop-less : tie.Need-loop-less Inv-loop μ-loop
-loop-less c = ?
+loop-less c = omega arith
 
--- src/name.rt:60:5
 loop-again : tie.Need-loop-again Inv-loop μ-loop
-loop-again c = ?
+loop-again c =
+    alike-turn _ _ _ (c .before .before .before .before .before .before .loop .inv) (omega arith)
+    (sym (c .before .before .before .lower .ensures) ∙ c .if2 .left ∙ c .before .lower2 .ensures)
 
--- src/name.rt:53:1
 returns-3 : tie.Need-returns-3 Inv-loop μ-loop
-returns-3 c = ?
+returns-3 c = search alike-end
 
 pub same-name-spec : {M : Type 1} → statement M
 same-name-spec =
