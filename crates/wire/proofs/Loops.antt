@@ -16,10 +16,7 @@ use Rattle.wire.specs.Reading.{reading, nameFront, nameAt}
 use Rattle.wire.specs.declared.name.NameReading.{NameReading}
 use Rattle.wire.specs.declared.name.NameReading.the-variants.{Name, NoName}
 use Rattle.wire.proofs.Names.{after-zero, after-after, labels-drop, sameName-length, endsIn-drop}
-
--- All from a place on, as a slice has it.
-pub drop-slice : (l : List ℕ) (at : ℕ) → take (length l - at) (drop at l) ≡ drop at l
-drop-slice l at = take-all (length l - at) (drop at l) (omega (arith, length-drop at l))
+use Rattle.wire.proofs.Writes.{drop-slice}
 
 true-false : (t : Bool) → (t ≡ true → ⊥) → false ≡ t
 true-false true h = absurd (h refl)
@@ -56,7 +53,7 @@ module _ (s : List ℕ) (i : ℕ) (r : Read s i) (h : i < length s) (k : i < max
       let b : ℕ = getD s i 0 in
       let t : List ℕ = drop (suc i) (take maxName s) in
       sym (ap reading (r .rest ∙ ap (λ (l : List ℕ). after i (labels 0 l)) next
-        ∙ ap₂ (λ (x y : Bool). after i (cond x (some 1) (cond y (after 1 (labels b t)) none))) (ne-eqb b 0 (λ z. omega arith)) (lt-leb b maxLabel e)))
+      ∙ ap₂ (λ (x y : Bool). after i (cond x (some 1) (cond y (after 1 (labels b t)) none))) (ne-eqb b 0 (λ z. omega arith)) (lt-leb b maxLabel e)))
 
   pub read-label : (getD s i 0 ≡ 0 → ⊥) → getD s i 0 ≤ maxLabel → Read s (i + (getD s i 0 + 1))
   unfolding labels
@@ -67,10 +64,11 @@ module _ (s : List ℕ) (i : ℕ) (r : Read s i) (h : i < length s) (k : i < max
       let m : suc i + b ≡ i + (b + 1) = omega arith in
       record {
         rest = r .rest ∙ ap (λ (l : List ℕ). after i (labels 0 l)) next
-          ∙ ap₂ (λ (x y : Bool). after i (cond x (some 1) (cond y (after 1 (labels b (drop (suc i) w))) none))) (ne-eqb b 0 e) (le-leb b maxLabel f)
-          ∙ ap (λ (o : Option ℕ). after i (after 1 o)) (labels-drop b (drop (suc i) w) ∙ ap (λ (l : List ℕ). after b (labels 0 l)) (drop-drop b (suc i) w ∙ ap (λ (j : ℕ). drop j w) m))
-          ∙ ap (after i) (after-after 1 b (labels 0 (drop (i + (b + 1)) w))) ∙ after-after i (1 + b) (labels 0 (drop (i + (b + 1)) w))
-          ∙ ap (λ (j : ℕ). after j (labels 0 (drop (i + (b + 1)) w))) n }
+            ∙ ap₂ (λ (x y : Bool). after i (cond x (some 1) (cond y (after 1 (labels b (drop (suc i) w))) none))) (ne-eqb b 0 e) (le-leb b maxLabel f)
+            ∙ ap (λ (o : Option ℕ). after i (after 1 o)) (labels-drop b (drop (suc i) w) ∙ ap (λ (l : List ℕ). after b (labels 0 l)) (drop-drop b (suc i) w ∙ ap (λ (j : ℕ). drop j w) m))
+            ∙ ap (after i) (after-after 1 b (labels 0 (drop (i + (b + 1)) w))) ∙ after-after i (1 + b) (labels 0 (drop (i + (b + 1)) w))
+            ∙ ap (λ (j : ℕ). after j (labels 0 (drop (i + (b + 1)) w))) n;
+      }
 
 pub nameAt-past : (s : List ℕ) (at : ℕ) → length s ≤ at → NoName ≡ nameAt s at
 unfolding nameAt nameFront nameLength labels
@@ -107,9 +105,10 @@ module _ (a b : List ℕ) (i : ℕ) (r : Alike a b i) where
 
   pub alike-turn : i < length a → lower (getD a i 0) ≡ lower (getD b i 0) → Alike a b (i + 1)
   alike-turn h e = record {
-      long = r .long;
-      rest = turn h ∙ ap (λ (t : Bool). t && sameName (drop (suc i) a) (drop (suc i) b)) (eq-eqb (lower (getD a i 0)) (lower (getD b i 0)) e)
-        ∙ ap (λ (j : ℕ). sameName (drop j a) (drop j b)) (sym (add-one i)) }
+    long = r .long;
+    rest = turn h ∙ ap (λ (t : Bool). t && sameName (drop (suc i) a) (drop (suc i) b)) (eq-eqb (lower (getD a i 0)) (lower (getD b i 0)) e)
+        ∙ ap (λ (j : ℕ). sameName (drop j a) (drop j b)) (sym (add-one i));
+  }
 
   pub unlike-octet : i < length a → (lower (getD a i 0) ≡ lower (getD b i 0) → ⊥) → false ≡ sameName a b
   unlike-octet h e =
@@ -145,4 +144,5 @@ module _ (zone name : List ℕ) (at : ℕ) (r : Passed zone name at) where
       let m : suc at + b ≡ at + (b + 1) = omega arith in
       record {
         rest = next-label h ∙ ap (λ (t : Bool). t || endsIn zone b (drop (suc at) name)) (ap (sameName zone) (sym (drop-slice name at)) ∙ sym e)
-          ∙ endsIn-drop zone b (drop (suc at) name) ∙ ap (endsIn zone 0) (drop-drop b (suc at) name ∙ ap (λ (j : ℕ). drop j name) m) }
+            ∙ endsIn-drop zone b (drop (suc at) name) ∙ ap (endsIn zone 0) (drop-drop b (suc at) name ∙ ap (λ (j : ℕ). drop j name) m);
+      }

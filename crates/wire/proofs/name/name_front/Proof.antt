@@ -6,8 +6,6 @@ use Rattle.wire.specs.Name.{maxName}
 use Rattle.wire.proofs.Loops.{Read, read-none, read-past, read-zero, read-over, read-label}
 use Rattle.wire.proofs.name.name_front.Statement.{statement}
 use Rattle.wire.proofs.name.name_front.Tie as tie
-use Rattle.wire.proofs.name.name_front.Reads as reads
-use Rattle.wire.proofs.name.name_front.Lts as lts
 
 abbrev Inv-loop : tie.InvT-loop
 Inv-loop s i₀ i = Read s i

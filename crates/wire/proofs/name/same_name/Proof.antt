@@ -7,9 +7,6 @@ use lib.ListN.{length}
 use Rattle.wire.proofs.Loops.{Alike, alike-none, alike-end, alike-turn, unlike-length, unlike-octet}
 use Rattle.wire.proofs.name.same_name.Statement.{statement}
 use Rattle.wire.proofs.name.same_name.Tie as tie
-use Rattle.wire.proofs.name.same_name.Reads as reads
-use Rattle.wire.proofs.name.same_name.Lts as lts
-use Rattle.wire.proofs.name.lower.Reads as lower-reads
 
 abbrev Inv-loop : tie.InvT-loop
 Inv-loop a b i₀ i = Alike a b i

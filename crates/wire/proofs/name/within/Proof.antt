@@ -1,66 +1,59 @@
+-- `wire::name::within` meets its contract. The loop's invariant: no label boundary before `at` has the zone. Assumes nothing.
+use Prim.Native.Nat.{_-_}
+use mathlib.Core.Path.{sym, _∙_}
+use native.Mathlib.Omega.{arith}
+use borrow.Author.Needs.{needs}
+use lib.ListN.{length}
+use Rattle.wire.proofs.Loops.{Passed, passed-none, passed-end, passed-found, passed-label}
 use Rattle.wire.proofs.name.within.Statement.{statement}
 use Rattle.wire.proofs.name.within.Tie as tie
-use Rattle.wire.proofs.name.within.Reads as reads
-use Rattle.wire.proofs.name.within.Lts as lts
-use Rattle.wire.proofs.name.same_name.Reads as same-name-reads
 
 abbrev Inv-loop : tie.InvT-loop
-Inv-loop zone name at₀ at = ?
+Inv-loop zone name at₀ at = Passed zone name at
 
 abbrev μ-loop : tie.MeasureT-loop
-μ-loop zone name at₀ at = ?
+μ-loop zone name at₀ at = length name - at
 
--- src/name.rt:73:5
 loop-holds : tie.Need-loop-holds Inv-loop μ-loop
-loop-holds c = ?
+loop-holds c = search passed-none
 
--- src/name.rt:74:28
 sub-same-name : tie.Need-sub-same-name Inv-loop μ-loop
-sub-same-name c = ?
+sub-same-name c = omega arith
 
--- src/name.rt:74:28
 part-same-name-start : tie.Need-part-same-name-start Inv-loop μ-loop
-part-same-name-start c = ?
+part-same-name-start c = search needs
 
--- src/name.rt:74:28
 part-same-name-end : tie.Need-part-same-name-end Inv-loop μ-loop
-part-same-name-end c = ?
+part-same-name-end c = search needs
 
--- src/name.rt:74:12
 same-name-requires : tie.Need-same-name-requires Inv-loop μ-loop
-same-name-requires c κs = ?
+same-name-requires c κs = search needs
 
--- src/name.rt:75:13
 returns : tie.Need-returns Inv-loop μ-loop
-returns c = ?
+returns c =
+    passed-found _ _ _ (c .before .before .before .before .loop .inv) (omega arith) (sym (c .if1 .taken) ∙ c .before .same-name .ensures)
 
--- src/name.rt:77:15
 shared-slice-read-at : tie.Need-shared-slice-read-at Inv-loop μ-loop
-shared-slice-read-at c = ?
+shared-slice-read-at c = omega arith
 
--- src/name.rt:77:15
 cast-at : tie.Need-cast-at Inv-loop μ-loop
-cast-at c = ?
+cast-at c = omega (arith, c .shared-slice-known3 .given (c .before .before .before .before .before .loop .at))
 
--- src/name.rt:77:15
 add-at : tie.Need-add-at Inv-loop μ-loop
-add-at c = ?
+add-at c = omega (arith, c .shared-slice-known3 .given (c .before .before .before .before .before .loop .at))
 
--- src/name.rt:77:9
 add-at-2 : tie.Need-add-at-2 Inv-loop μ-loop
-add-at-2 c = ?
+add-at-2 c = omega (arith, c .shared-slice-known3 .given (c .before .before .before .before .before .loop .at))
 
--- src/name.rt:73:5
 loop-less : tie.Need-loop-less Inv-loop μ-loop
-loop-less c = ?
+loop-less c = omega arith
 
--- src/name.rt:73:5
 loop-again : tie.Need-loop-again Inv-loop μ-loop
-loop-again c = ?
+loop-again c =
+    passed-label _ _ _ (c .before .before .before .before .before .loop .inv) (omega arith) (sym (c .before .if1 .left) ∙ c .before .before .same-name .ensures)
 
--- src/name.rt:69:1
 returns-2 : tie.Need-returns-2 Inv-loop μ-loop
-returns-2 c = ?
+returns-2 c = search passed-end
 
 pub within-spec : {M : Type 1} → statement M
 within-spec =

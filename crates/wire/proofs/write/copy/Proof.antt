@@ -9,8 +9,6 @@ use lib.Seq.{sets, length-sets, take-all}
 use Rattle.wire.proofs.Writes.{sets-step, sets-full}
 use Rattle.wire.proofs.write.copy.Statement.{statement}
 use Rattle.wire.proofs.write.copy.Tie as tie
-use Rattle.wire.proofs.write.copy.Reads as reads
-use Rattle.wire.proofs.write.copy.Lts as lts
 
 abbrev Inv-loop : tie.InvT-loop
 Inv-loop dst₀ src i₀ dst i = (i ≤ length src) × (dst ≡ sets dst₀ 0 (take i src))
@@ -28,7 +26,7 @@ returns : tie.Need-returns Inv-loop μ-loop
 returns c =
     let a = c .before .before .before .args in
     let e = c .before .before .loop .inv .1 in
-    e ∙ sets-full (a .dst .now) (a .src .now) _ (omega arith) (omega (arith, simp length-sets at (ap length e)))
+    e ∙ sets-full (a .dst .now) (a .src .now) (c .before .before .loop .i) (omega arith) (omega (arith, simp length-sets at (ap length e)))
 
 shared-slice-read-dst : tie.Need-shared-slice-read-dst Inv-loop μ-loop
 shared-slice-read-dst c = omega arith
@@ -54,7 +52,7 @@ same-length-2 c = ap length (c .before .loop .inv .1) ∙ simp length-sets
 returns-2 : tie.Need-returns-2 Inv-loop μ-loop
 returns-2 c =
     let a = c .before .before .args in
-    c .before .loop .inv .1 ∙ ap (sets (a .dst .now) 0) (take-all _ (a .src .now) (omega arith))
+    c .before .loop .inv .1 ∙ ap (sets (a .dst .now) 0) (take-all (c .before .loop .i) (a .src .now) (omega arith))
 
 pub copy-spec : {M : Type 1} → statement M
 copy-spec =
