@@ -1,0 +1,55 @@
+-- Demand 3 (01, "Demand 3 over whole lists"), as a statement about the state and the observer after any list of calls.
+use Prim.Native.Nat.{ℕ, _≤_}
+use mathlib.Core.Bool.{Bool, true, false, _||_}
+use mathlib.Core.List.{List, [], _∷_}
+use mathlib.Core.Option.{Option, none, some}
+use mathlib.Core.Path.{_≡_}
+use lib.ListN.{getD}
+use lib.Dec.{eqb}
+use Rattle.zone.specs.Record.{Record}
+use Rattle.zone.specs.Match.{Subscription, view}
+use Rattle.zone.specs.Sound.{Exactly}
+use Rattle.push.specs.Change.{Change}
+use Rattle.push.specs.List.{changes}
+use Rattle.server.specs.Answer.{Answer, answerNumber}
+use Rattle.server.specs.State.{State}
+use Rattle.server.specs.Call.{Call, opens, closes, receives, edits, ticks, Outcome, outcome}
+use Rattle.views.specs.Reader.{bytesFor, pushesIn}
+use Rattle.views.specs.Observer.{Client, Observer, watching, observe}
+
+-- A run: the server's state, and the observer beside it.
+pub record Run : Type 0 where
+  pub state : State
+  pub observer : Observer
+
+-- The run begins with what a start gave and an observer that knows the zone's name.
+abbrev pub begun : List ℕ → State → Run
+begun zone st = record { state = st; observer = watching zone }
+
+unfoldable pub stepped : Run → Call → Run
+stepped r c =
+    record {
+      state = outcome (r .state) c .next;
+      observer = observe c (outcome (r .state) c .answer) (outcome (r .state) c .output) (r .observer)
+    }
+
+unfoldable pub runOf : Run → List Call → Run
+runOf r [] = r
+runOf r (c ∷ cs) = runOf (stepped r c) cs
+
+-- "After every call a client has just its view".
+pub record Faithful (o : Observer) : Type 0 where
+  pub exact : (s : ℕ) (c : Client) → getD (o .clients) s none ≡ some c → Exactly (c .records) (view (c .subscriptions) (o .store))
+
+-- "in one PUSH, or none if it is empty"
+abbrev pub inOne : List Change → List (List Change)
+inOne [] = []
+inOne (c ∷ cs) = (c ∷ cs) ∷ []
+
+-- Whether a call is a batch that was carried out.
+abbrev pub isBatch : Call → Bool
+isBatch (opens t) = false
+isBatch (closes t s) = false
+isBatch (receives t s m output) = false
+isBatch (edits t b output) = true
+isBatch (ticks t) = false

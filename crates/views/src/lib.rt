@@ -1,0 +1,1 @@
+// Demand 3 over whole lists of calls: definitions and the theorem; no code.
