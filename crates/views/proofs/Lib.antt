@@ -1,0 +1,2 @@
+-- Laws about the observer, and the theorem.
+pub mod Outputs
