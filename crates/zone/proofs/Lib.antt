@@ -1,0 +1,3 @@
+-- Laws of the zone, for the layers above.
+pub mod Lists
+pub mod Keys
