@@ -1,3 +1,4 @@
 -- Laws of the zone, for the layers above.
 pub mod Lists
 pub mod Keys
+pub mod Stores
