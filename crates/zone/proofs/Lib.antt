@@ -1,0 +1,5 @@
+-- Laws of the zone, for the layers above.
+pub mod Lists
+pub mod Keys
+pub mod Stores
+pub mod Views
