@@ -1,2 +1,3 @@
 -- Laws about the observer, and the theorem.
 pub mod Outputs
+pub mod Related

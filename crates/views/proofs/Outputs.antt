@@ -1,6 +1,6 @@
 -- What a batch writes for a session is what the observer reads for it.
 use Prim.Native.Nat.{ℕ, zero, suc, _+_, _*_, _≤_, _<_}
-use native.Mathlib.Nat.{add-suc, suc-add, add-zero}
+use native.Mathlib.Nat.{add-suc, suc-add, add-zero, zero-add}
 use native.Mathlib.Omega.{arith}
 use mathlib.Core.Bool.{Bool, true, false, cond, _&&_}
 use mathlib.Core.List.{List, [], _∷_, map}
@@ -12,6 +12,7 @@ use borrow.Author.Tests.{eqb-true}
 use Rattle.wire.specs.Part.{part}
 use Rattle.wire.proofs.Writes.{part-before, part-written}
 use Rattle.zone.specs.Lists.{allOf}
+use Rattle.zone.proofs.Lists.{and-left, and-right}
 use Rattle.server.specs.Answer.{Answer, done, sent}
 use Rattle.server.specs.Checks.{outputSize}
 use Rattle.server.specs.Call.{written, told}
@@ -52,12 +53,8 @@ empty (a ∷ w) h = absurd (omega arith)
 
 none-written : (ws : List (List ℕ)) (i : ℕ) → allOf (λ (w : List ℕ). eqb (length w) 0) ws ≡ true → [] ≡ getD ws i []
 none-written [] i h = refl
-none-written (w ∷ ws) i h = go (eqb (length w) 0) refl h i
-  where
-    go : (b : Bool) → eqb (length w) 0 ≡ b → (b && allOf (λ (v : List ℕ). eqb (length v) 0) ws) ≡ true → (i : ℕ) → [] ≡ getD (w ∷ ws) i []
-    go true e r zero = empty w (eqb-true (length w) 0 e)
-    go true e r (suc j) = none-written ws j r
-    go false e r j = absurd (let z : _≡_ {A = ℕ} 0 1 = cc in omega arith)
+none-written (w ∷ ws) zero h = empty w (eqb-true (length w) 0 (and-left _ _ h))
+none-written (w ∷ ws) (suc i) h = none-written ws i (and-right (eqb (length w) 0) _ h)
 
 -- The bytes that a batch's answer states for a session are those written for it.
 pub bytes-told : (ws : List (List ℕ)) (o : List ℕ) (s : ℕ) → ((j : ℕ) → length (getD ws j []) ≤ outputSize)
@@ -70,4 +67,5 @@ bytes-told ws o s fit room = go (allOf (λ (w : List ℕ). eqb (length w) 0) ws)
     go true e = none-written ws s e
     go false e =
         ap (λ (n : ℕ). take n (drop (s * outputSize) (written 0 ws o))) (List·getD-map length ws s [])
-        ∙ each 0 ws o s fit ? ∙ ?
+        ∙ ap (λ (k : ℕ). part (written 0 ws o) (k * outputSize) (length (getD ws s []))) (sym (zero-add s))
+        ∙ each 0 ws o s fit (omega arith)

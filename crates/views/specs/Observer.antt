@@ -4,7 +4,7 @@ use Prim.Native.Nat.{ℕ, suc, _+_}
 use mathlib.Core.Bool.{Bool, true, false, cond, _&&_, _||_}
 use mathlib.Core.List.{List, [], _∷_, _++_}
 use mathlib.Core.Option.{Option, none, some, Option·map}
-use lib.ListN.{set, take, drop, replicate}
+use lib.ListN.{set, getD, take, drop, replicate}
 use lib.Dec.{eqb}
 use Rattle.wire.specs.Field.{field}
 use Rattle.wire.specs.Name.{nameLength}
@@ -42,14 +42,9 @@ watching zone = record { zone = zone; store = []; clients = replicate maxSession
 abbrev pub withClients : List (Option Client) → Observer → Observer
 withClients cl o = record { zone = o .zone; store = o .store; clients = cl }
 
--- What becomes of the client of session s.
-abbrev pub place : ℕ → Option Client → List (Option Client) → List (Option Client)
-place s c cl = set cl s c
-
+-- The client of session s, if it lives, is changed.
 abbrev pub changeAt : ℕ → (Client → Client) → List (Option Client) → List (Option Client)
-changeAt s f [] = []
-changeAt ℕ.zero f (c ∷ cl) = Option·map f c ∷ cl
-changeAt (suc s) f (c ∷ cl) = c ∷ changeAt s f cl
+changeAt s f cl = set cl s (Option·map f (getD cl s none))
 
 -- "Open answered 1: its session lives, with neither."
 abbrev pub newborn : Client
