@@ -1,0 +1,2 @@
+-- Laws of change notifications.
+pub mod ReadBack
