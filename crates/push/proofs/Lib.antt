@@ -1,2 +1,3 @@
 -- Laws of change notifications.
 pub mod ReadBack
+pub mod Framing
