@@ -16,7 +16,7 @@ use Rattle.zone.specs.Match.{any}
 use Rattle.zone.specs.Layout.{size, recordOctets, readRecord}
 use Rattle.zone.specs.Batch.{maxTtl, removeTtl}
 use Rattle.zone.specs.Fits.{fits}
-use Rattle.zone.proofs.Tests.{left, right}
+use Rattle.zone.proofs.Lists.{and-left, and-right}
 use Rattle.zone.proofs.Layouts.{readRecord-octets, length-recordOctets, size-le, size-pos}
 use Rattle.push.specs.Change.{
   Removal,
@@ -37,7 +37,7 @@ use Rattle.push.specs.Plain.{notAny, plainValues, plainChange, changeSiz
 
 not-any : (t c : ℕ) → notAny t && notAny c ≡ true → (eqb t any ≡ false) × (eqb c any ≡ false)
 not-any t c h =
-    (not-true (eqb t any) (left (notAny t) (notAny c) h), not-true (eqb c any) (right (notAny t) (notAny c) h))
+    (not-true (eqb t any) (and-left (notAny t) (notAny c) h), not-true (eqb c any) (and-right (notAny t) (notAny c) h))
 
 unless-not : (r : Record) (c : Change) → eqb (r .rrtype) any ≡ false → eqb (r .rrclass) any ≡ false → unlessAny r c ≡ change c
 unless-not r c p q = rw (p, q)
@@ -45,9 +45,9 @@ unless-not r c p q = rw (p, q)
 pub notified-fields : (c : Change) → plainValues c ≡ true → notified (fieldsOf c) ≡ change c
 unfolding plainValues fieldsOf notified
 notified-fields (addition r) h =
-    let t : leb (r .ttl) maxTtl ≡ true = search (left, right) in
-    let p : notAny (r .rrtype) ≡ true = search (left, right) in
-    let q : notAny (r .rrclass) ≡ true = search (left, right) in
+    let t : leb (r .ttl) maxTtl ≡ true = search (and-left, and-right) in
+    let p : notAny (r .rrtype) ≡ true = search (and-left, and-right) in
+    let q : notAny (r .rrclass) ≡ true = search (and-left, and-right) in
     rw (t, notified) (unless-not r (addition r) (not-true (eqb (r .rrtype) any) p) (not-true (eqb (r .rrclass) any) q))
 notified-fields (removal (single owner rrtype rrclass rdata)) h =
     let (p, q) = not-any rrtype rrclass h in
@@ -99,10 +99,10 @@ pub changesIn-changes : (cs : List Change) → allOf plainChange cs ≡ true →
 unfolding changesOctets plainChange
 changesIn-changes [] h = changesIn-nil
 changesIn-changes (c ∷ cs) h =
-    let p : plainChange c ≡ true = left (plainChange c) (allOf plainChange cs) h in
-    changesIn-octets (fieldsOf c) (changesOctets cs) (left (fits (fieldsOf c)) (plainValues c) p)
-    ∙ ap₂ joined (notified-fields c (right (fits (fieldsOf c)) (plainValues c) p))
-    (changesIn-changes cs (right (plainChange c) (allOf plainChange cs) h))
+    let p : plainChange c ≡ true = and-left (plainChange c) (allOf plainChange cs) h in
+    changesIn-octets (fieldsOf c) (changesOctets cs) (and-left (fits (fieldsOf c)) (plainValues c) p)
+    ∙ ap₂ joined (notified-fields c (and-right (fits (fieldsOf c)) (plainValues c) p))
+    (changesIn-changes cs (and-right (plainChange c) (allOf plainChange cs) h))
 
 pub length-changesOctets : (cs : List Change) → length (changesOctets cs) ≡ changesSize cs
 unfolding changesOctets changesSize

@@ -16,7 +16,7 @@ use Rattle.zone.specs.Match.{any}
 use Rattle.zone.specs.Batch.{allowed, isPut, isPlain, maxTtl, removeTtl, maxRdata}
 use Rattle.zone.specs.Sound.{good}
 use Rattle.zone.specs.Fits.{fits, maxSize}
-use Rattle.zone.proofs.Tests.{left, right}
+use Rattle.zone.proofs.Lists.{and-left, and-right}
 use Rattle.zone.proofs.Layouts.{Fitting, fitting, fits-of}
 
 -- ---- an allowed edit
@@ -31,16 +31,16 @@ pub record Allowed (zone : List ℕ) (r : Record) : Type 0 where
 pub allowed-parts : (zone : List ℕ) (r : Record) → allowed zone r ≡ true → Allowed zone r
 unfolding allowed
 allowed-parts zone r h = record {
-  ttl = search (left, right);
-  rrtype = search (left, right);
-  rrclass = search (left, right);
-  rdata = leb-true (length (r .rdata)) maxRdata (search (left, right));
-  inside = search (left, right);
+  ttl = search (and-left, and-right);
+  rrtype = search (and-left, and-right);
+  rrclass = search (and-left, and-right);
+  rdata = leb-true (length (r .rdata)) maxRdata (search (and-left, and-right));
+  inside = search (and-left, and-right);
 }
 
 -- A type or class that a record may have isn't the one that asks for any.
 pub plain-not-any : (x : ℕ) → isPlain x ≡ true → eqb x any ≡ false
-plain-not-any x h = not-true (eqb x any) (right (not (eqb x 0)) (not (eqb x any)) h)
+plain-not-any x h = not-true (eqb x any) (and-right (not (eqb x 0)) (not (eqb x any)) h)
 
 -- ---- a good record
 
@@ -55,17 +55,17 @@ ttl-fits r h = omega (arith, leb-true (r .ttl) maxTtl h)
 pub good-parts : (zone : List ℕ) (r : Record) → good zone r ≡ true → Good zone r
 unfolding good
 good-parts zone r h =
-    let put : isPut r ≡ true = search (left, right) in
-    let a : allowed zone r ≡ true = search (left, right) in
+    let put : isPut r ≡ true = search (and-left, and-right) in
+    let a : allowed zone r ≡ true = search (and-left, and-right) in
     record {
       fit = fits-of r (record {
-        name = search (left, right);
-        ownerOctets = search (left, right);
-        type16 = ltb-true (r .rrtype) 65536 (search (left, right));
-        class16 = ltb-true (r .rrclass) 65536 (search (left, right));
+        name = search (and-left, and-right);
+        ownerOctets = search (and-left, and-right);
+        type16 = ltb-true (r .rrtype) 65536 (search (and-left, and-right));
+        class16 = ltb-true (r .rrclass) 65536 (search (and-left, and-right));
         ttl32 = ttl-fits r put;
         rdata16 = omega (arith, allowed-parts zone r a .rdata);
-        rdataOctets = search (left, right);
+        rdataOctets = search (and-left, and-right);
       });
       ttl = put;
       values = a;

@@ -17,7 +17,7 @@ use Rattle.wire.proofs.Names.{nameLength-append, nameLength-le, isName-take, is
 use Rattle.zone.specs.Record.{Record}
 use Rattle.zone.specs.Layout.{fixedSize, size, recordOctets, readAfter, readRecord}
 use Rattle.zone.specs.Fits.{fits}
-use Rattle.zone.proofs.Tests.{both, left, right}
+use Rattle.zone.proofs.Lists.{and-left, and-right}
 
 -- ---- fields that fit, one by one
 
@@ -33,13 +33,13 @@ pub record Fitting (r : Record) : Type 0 where
 pub fitting : (r : Record) → fits r ≡ true → Fitting r
 unfolding fits
 fitting r h = record {
-  name = search (left, right);
-  ownerOctets = search (left, right);
-  type16 = ltb-true (r .rrtype) 65536 (search (left, right));
-  class16 = ltb-true (r .rrclass) 65536 (search (left, right));
-  ttl32 = ltb-true (r .ttl) 0x1_0000_0000 (search (left, right));
-  rdata16 = ltb-true (length (r .rdata)) 65536 (search (left, right));
-  rdataOctets = search (left, right);
+  name = search (and-left, and-right);
+  ownerOctets = search (and-left, and-right);
+  type16 = ltb-true (r .rrtype) 65536 (search (and-left, and-right));
+  class16 = ltb-true (r .rrclass) 65536 (search (and-left, and-right));
+  ttl32 = ltb-true (r .ttl) 0x1_0000_0000 (search (and-left, and-right));
+  rdata16 = ltb-true (length (r .rdata)) 65536 (search (and-left, and-right));
+  rdataOctets = search (and-left, and-right);
 }
 
 pub fits-of : (r : Record) → Fitting r → fits r ≡ true

@@ -1,4 +1,7 @@
--- Laws of the zone's definitions, which the proofs of this crate and of those above cite.
-pub mod Tests
+-- Laws of the zone, for the layers above.
+pub mod Lists
+pub mod Keys
+pub mod Stores
+pub mod Views
 pub mod Layouts
 pub mod Goods
