@@ -1,13 +1,13 @@
 -- Changes that octets can say, and how many octets they take.
-use Prim.Native.Nat.{ℕ, _+_}
+use Prim.Native.Nat.{ℕ, _+_, _*_}
 use mathlib.Core.Bool.{Bool, true, not, _&&_}
 use mathlib.Core.List.{List, [], _∷_}
 use lib.Dec.{leb, eqb}
 use Rattle.zone.specs.Record.{Record}
 use Rattle.zone.specs.Match.{any}
 use Rattle.zone.specs.Layout.{size}
-use Rattle.zone.specs.Batch.{maxTtl}
-use Rattle.zone.specs.Fits.{fits}
+use Rattle.zone.specs.Batch.{maxTtl, maxRecords}
+use Rattle.zone.specs.Fits.{fits, maxSize}
 use Rattle.push.specs.Change.{
   Removal,
   single,
@@ -43,3 +43,7 @@ changeSize c = size (fieldsOf c)
 unfoldable pub changesSize : List Change → ℕ
 changesSize [] = 0
 changesSize (c ∷ cs) = changeSize c + changesSize cs
+
+-- The most octets of a PUSH message, without its length prefix (01, "What the dock can hold": 15,736).
+abbrev pub maxPush : ℕ
+maxPush = 12 + 4 + maxRecords * maxSize
