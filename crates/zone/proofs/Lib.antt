@@ -3,3 +3,5 @@ pub mod Lists
 pub mod Keys
 pub mod Stores
 pub mod Views
+pub mod Layouts
+pub mod Goods

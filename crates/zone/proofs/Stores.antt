@@ -273,8 +273,12 @@ distinct-put r l d = go (held (keyOf r) l) refl
   where
     new : (e : Record) → not (sameKey (keyOf e) (keyOf r)) ≡ true → not (held (keyOf e) (r ∷ [])) ≡ true
     new e f =
-        rw (held-cons (keyOf e) r [], sameKey-sym (keyOf r) (keyOf e), not-true (sameKey (keyOf e) (keyOf r)) f,
-          none-held (keyOf e) [] (unfold find in refl))
+        rw (
+          held-cons (keyOf e) r [],
+          sameKey-sym (keyOf r) (keyOf e),
+          not-true (sameKey (keyOf e) (keyOf r)) f,
+          none-held (keyOf e) [] (unfold find in refl),
+        )
 
     go : (b : Bool) → held (keyOf r) l ≡ b → distinct (cond b (map (setIf (keyOf r) (r .ttl)) l) (l ++ (r ∷ []))) ≡ true
     go true h = distinct-setIf (keyOf r) (r .ttl) l d

@@ -143,16 +143,16 @@ exactly-multiset client view d = (there, back)
     there x = record {
       once = λ k. times-distinct k client (x .once);
       same = λ k t. tallied (λ (u : ℕ). eqb u t) k client (x .once)
-      ∙ ap (tally (λ (u : ℕ). eqb u t)) (x .same k)
-      ∙ sym (tallied (λ (u : ℕ). eqb u t) k view d);
+          ∙ ap (tally (λ (u : ℕ). eqb u t)) (x .same k)
+          ∙ sym (tallied (λ (u : ℕ). eqb u t) k view d);
     }
 
     back : SameMultiset client view → Exactly client view
     back x =
         let c : distinct client ≡ true = distinct-times client (x .once) in
         record {
-      once = c;
-      same = λ k. tally-same (find k client) (find k view) (λ t. sym (tallied (λ (u : ℕ). eqb u t) k client c)
-      ∙ x .same k t
-      ∙ tallied (λ (u : ℕ). eqb u t) k view d);
-    }
+          once = c;
+          same = λ k. tally-same (find k client) (find k view) (λ t. sym (tallied (λ (u : ℕ). eqb u t) k client c)
+              ∙ x .same k t
+              ∙ tallied (λ (u : ℕ). eqb u t) k view d);
+        }
