@@ -1,3 +1,4 @@
 -- Laws about the observer, and the theorem.
 pub mod Outputs
 pub mod Related
+pub mod Quiet

@@ -32,7 +32,7 @@ orNone none = []
 orNone (some ms) = ms
 
 unfoldable pub messagesIn : List ℕ → List (List ℕ)
-messagesIn bytes = orNone (framesIn bytes)
+messagesIn bytes = orNone (framesIn 0 bytes)
 
 -- Whether the first message is a reply with RCODE 0.
 abbrev pub isSuccess : List (List ℕ) → Bool
@@ -54,4 +54,4 @@ pushesOf (some ms) = allPushes ms
 
 -- The changes of each PUSH where the bytes are PUSH messages and nothing else; none where they are not.
 unfoldable pub pushesIn : List ℕ → Option (List (List Change))
-pushesIn bytes = pushesOf (framesIn bytes)
+pushesIn bytes = pushesOf (framesIn 0 bytes)
