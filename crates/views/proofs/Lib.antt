@@ -2,3 +2,5 @@
 pub mod Outputs
 pub mod Related
 pub mod Quiet
+pub mod Checks
+pub mod Plain
