@@ -38,6 +38,12 @@ allowed-parts zone r h = record {
   inside = search (and-left, and-right);
 }
 
+pub allowed-of : (zone : List ℕ) (r : Record) → Allowed zone r → allowed zone r ≡ true
+unfolding allowed
+allowed-of zone r a =
+    let d = le-leb (length (r .rdata)) maxRdata (a .rdata) in
+    cc
+
 -- A type or class that a record may have isn't the one that asks for any.
 pub plain-not-any : (x : ℕ) → isPlain x ≡ true → eqb x any ≡ false
 plain-not-any x h = not-true (eqb x any) (and-right (not (eqb x 0)) (not (eqb x any)) h)

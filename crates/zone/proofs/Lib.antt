@@ -5,3 +5,4 @@ pub mod Stores
 pub mod Views
 pub mod Layouts
 pub mod Goods
+pub mod Batches
