@@ -4,3 +4,4 @@ pub mod Related
 pub mod Quiet
 pub mod Checks
 pub mod Plain
+pub mod Batch
