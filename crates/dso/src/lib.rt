@@ -1,0 +1,13 @@
+// DNS Stateful Operations (RFC 8490): the judgment of a message from its octets alone, and the responses.
+mod judgment;
+mod response;
+
+pub use judgment::Judged;
+pub use judgment::Judgment;
+pub use judgment::MessageId;
+pub use judgment::Place;
+pub use judgment::Question;
+pub use judgment::Record;
+pub use judgment::ReplyCode;
+pub use response::Response;
+pub use response::Timeouts;
