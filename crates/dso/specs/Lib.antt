@@ -3,5 +3,6 @@
 pub mod Header
 pub mod Tlv
 pub mod Judge
+pub mod Steps
 pub mod Response
 pub mod Match

@@ -15,7 +15,12 @@ use Rattle.dso.specs.Judge.{any}
 abbrev pub cnameType : ℕ
 cnameType = 5
 
+unfoldable pub asksClass : ℕ → ℕ → Bool
+asksClass qclass class = eqb qclass class || eqb qclass any
+
+unfoldable pub asksType : ℕ → ℕ → Bool
+asksType qtype rtype = eqb qtype rtype || eqb qtype any || eqb rtype cnameType
+
 -- Whether a record of a type and class is asked for by a type and class, the names being equal.
 unfoldable pub asksFor : ℕ → ℕ → ℕ → ℕ → Bool
-asksFor qtype qclass rtype class =
-    (eqb qclass class || eqb qclass any) && (eqb qtype rtype || eqb qtype any || eqb rtype cnameType)
+asksFor qtype qclass rtype class = asksClass qclass class && asksType qtype rtype

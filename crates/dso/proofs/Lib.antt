@@ -1,0 +1,3 @@
+-- Laws of the DSO layer that several proofs, and the layers above, cite.
+pub mod Reading
+pub mod Tlvs
