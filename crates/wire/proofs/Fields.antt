@@ -1,13 +1,14 @@
 -- Laws of fields, once over the width: both round trips, lengths, bounds, splits, and that what follows a field doesn't
 -- change it.
 use Prim.Native.Nat.{ℕ, zero, suc, _+_, _*_, _/_, _%_, _^_, _≤_, _<_}
-use mathlib.Core.Path.{_≡_, refl, sym, ap, _∙_}
+use mathlib.Core.Path.{_≡_, refl, sym, ap, ap₂, _∙_}
 use mathlib.Core.Bool.{Bool, true, false, _&&_}
 use mathlib.Core.List.{List, [], _∷_, _++_}
-use native.Mathlib.Nat.{mod-one, pow-suc, pow-succ', one-le-pow, mod-eq-of-lt, mul-add-div-right, mul-add-mod-self-right, mod-lt, mul-assoc, div-div-eq-div-mul, suc-add, zero-add, add-comm, zero-mul, le-of-suc-le-suc, not-suc-le-zero}
+use native.Mathlib.Nat.{mod-one, pow-suc, pow-succ', one-le-pow, mod-eq-of-lt, mul-add-div-right, mul-add-mod-self-right, mod-lt, mul-assoc, div-add-mod', div-one, div-lt-iff-lt-mul, div-div-eq-div-mul, suc-add, zero-add, add-comm, zero-mul, le-of-suc-le-suc, not-suc-le-zero}
 use native.Mathlib.Omega.{arith}
-use lib.ListN.{length, take, drop, getD}
+use lib.ListN.{length, take, drop, getD, drop-of-length-le}
 use lib.Arith.{mod-mul, digits-lt, digits-div}
+use lib.Seq.{drop-drop}
 use lib.Pow.{pow-add, areBytes}
 use lib.Dec.{lit<, ltb}
 use borrow.Author.Tests.{ltb-true, lt-ltb}
@@ -76,18 +77,28 @@ octets-high zero q x = refl
 octets-high (suc n) q x =
     let e : q * 256 ^ suc n ≡ q * 256 * 256 ^ n = ap (λ (k : ℕ). q * k) (pow-succ' 256 n) ∙ sym (mul-assoc q 256 (256 ^ n)) in
     let d : (q * 256 ^ suc n + x) / 256 ^ n % 256 ≡ x / 256 ^ n % 256 =
-          ap (λ (k : ℕ). (k + x) / 256 ^ n % 256) e ∙ ap (λ (k : ℕ). k % 256) (mul-add-div-right (pos n) (q * 256) x)
-          ∙ mul-add-mod-self-right q 256 (x / 256 ^ n) in
+    ap (λ (k : ℕ). (k + x) / 256 ^ n % 256) e ∙ ap (λ (k : ℕ). k % 256) (mul-add-div-right (pos n) (q * 256) x)
+    ∙ mul-add-mod-self-right q 256 (x / 256 ^ n) in
     let t : octets n (q * 256 ^ suc n + x) ≡ octets n x = ap (λ (k : ℕ). octets n (k + x)) e ∙ octets-high n (q * 256) x in
     cc
+
+pub octets-mod : (n x : ℕ) → octets n (x % 256 ^ n) ≡ octets n x
+octets-mod n x = sym (octets-high n (x / 256 ^ n) (x % 256 ^ n)) ∙ ap (octets n) (div-add-mod' x (256 ^ n))
+
+-- Two octets, of a number that has no more.
+pub octets-two : (x : ℕ) → x < 256 ^ 2 → x / 256 ∷ (x % 256 ∷ []) ≡ octets 2 x
+unfolding octets
+octets-two x h =
+    let q : x / 256 < 256 = div-lt-iff-lt-mul {x = x} {y = 256} (lit< tt) .1 h in
+    ap₂ (λ (a b : ℕ). a ∷ (b % 256 ∷ [])) (sym (mod-eq-of-lt q)) (sym (div-one x))
 
 pub octets-split : (n m x : ℕ) → octets (n + m) x ≡ octets n (x / 256 ^ m) ++ octets m x
 unfolding octets
 octets-split zero m x = ap (λ (k : ℕ). octets k x) (zero-add m)
 octets-split (suc n) m x =
     let d : x / 256 ^ (n + m) % 256 ≡ x / 256 ^ m / 256 ^ n % 256 =
-          ap (λ (k : ℕ). x / 256 ^ k % 256) (add-comm n m) ∙ ap (λ (k : ℕ). x / k % 256) (pow-add 256 m n)
-          ∙ ap (λ (k : ℕ). k % 256) (sym (div-div-eq-div-mul x (256 ^ m) (256 ^ n))) in
+    ap (λ (k : ℕ). x / 256 ^ k % 256) (add-comm n m) ∙ ap (λ (k : ℕ). x / k % 256) (pow-add 256 m n)
+    ∙ ap (λ (k : ℕ). k % 256) (sym (div-div-eq-div-mul x (256 ^ m) (256 ^ n))) in
     let t : octets (n + m) x ≡ octets n (x / 256 ^ m) ++ octets m x = octets-split n m x in
     ap (λ (k : ℕ). octets k x) (suc-add n m) ∙ cc
 
@@ -128,6 +139,24 @@ field-append zero l r h = refl
 field-append (suc n) [] r h = absurd (not-suc-le-zero h)
 field-append (suc n) (b ∷ l) r h = ap (λ (k : ℕ). b * 256 ^ n + k) (field-append n l r (le-of-suc-le-suc h))
 
+-- ---- a field at a place of a list
+
+pub field-past : (n : ℕ) (l : List ℕ) (at : ℕ) → length l ≤ at → 0 ≡ field n (drop at l)
+field-past n l at h = sym (ap (field n) (drop-of-length-le l h) ∙ field-nil n)
+
+pub field-one : (l : List ℕ) (at : ℕ) → field 1 (drop at l) ≡ getD l at 0
+unfolding field
+field-one [] zero = refl
+field-one [] (suc at) = refl
+field-one (b ∷ l) zero = omega arith
+field-one (b ∷ l) (suc at) = field-one l at
+
+-- Two fields that stand side by side, read as one.
+pub field-join : (n m : ℕ) (l : List ℕ) (at high low : ℕ) → high ≡ field n (drop at l) → low ≡ field m (drop (at + n) l)
+    → high * 256 ^ m + low ≡ field (n + m) (drop at l)
+field-join n m l at high low p q =
+    ap₂ (λ (h k : ℕ). h * 256 ^ m + k) p (q ∙ ap (field m) (sym (drop-drop n at l))) ∙ sym (field-split n m (drop at l))
+
 -- ---- both round trips
 
 pub field-octets-mod : (n x : ℕ) (rest : List ℕ) → field n (octets n x ++ rest) ≡ x % 256 ^ n
@@ -147,6 +176,6 @@ octets-field (suc n) [] h k = absurd (not-suc-le-zero k)
 octets-field (suc n) (b ∷ l) h k =
     let hl : areBytes l ≡ true = right (ltb b 256) (areBytes l) h in
     let d : (b * 256 ^ n + field n l) / 256 ^ n % 256 ≡ b =
-          ap (λ (y : ℕ). y % 256) (digits-div b (field-lt n l hl)) ∙ mod-eq-of-lt (octet-at (b ∷ l) 0 h) in
+    ap (λ (y : ℕ). y % 256) (digits-div b (field-lt n l hl)) ∙ mod-eq-of-lt (octet-at (b ∷ l) 0 h) in
     let t : octets n (b * 256 ^ n + field n l) ≡ take n l = octets-high n b (field n l) ∙ octets-field n l hl (le-of-suc-le-suc k) in
     cc

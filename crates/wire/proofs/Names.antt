@@ -109,7 +109,7 @@ nameLength-front l n r h =
     let e : length (take n l) ≡ n = length-take-le n l (nameLength-le l n h) in
     let s : length (take n l) + (maxName - n) ≡ maxName = omega arith in
     ap (labels 0) (ap (λ (k : ℕ). take k (take n l ++ r)) (sym s) ∙ take-append-add (take n l) r (maxName - n)
-        ∙ ap (λ (k : List ℕ). k ++ take (maxName - n) r) (sym (take-take n maxName l m)))
+    ∙ ap (λ (k : List ℕ). k ++ take (maxName - n) r) (sym (take-take n maxName l m)))
     ∙ labels-of (reads-front (nameLength-reads l n h) (take (maxName - n) r))
 
 pub nameLength-take : (l : List ℕ) (n : ℕ) → nameLength l ≡ some n → nameLength (take n l) ≡ some n
@@ -241,6 +241,7 @@ labels-lowered zero (b ∷ l) =
   where
     same : (c : ℕ) → labels c (lowered l) ≡ labels c l → labels 0 (c ∷ lowered l) ≡ labels 0 (c ∷ l)
     same c e = ap (λ (o : Option ℕ). cond (eqb c 0) (some 1) (cond (leb c maxLabel) (after 1 o) none)) e
+
     over : (c : ℕ) (r : List ℕ) → maxLabel < c → labels 0 (c ∷ r) ≡ none
     over c r h =
         ap₂ (λ (s t : Bool). cond s (some 1) (cond t (after 1 (labels c r)) none)) (ne-eqb c 0 (λ e. omega arith)) (lt-leb c maxLabel h)

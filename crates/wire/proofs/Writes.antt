@@ -1,14 +1,16 @@
 -- Laws of `sets`, a list with other octets from a place on: two writes in a row; what a write leaves as it was; what was
 -- written; a part that was lent and has come back.
-use Prim.Native.Nat.{ℕ, zero, suc, _+_, _-_, _≤_, _<_, suc-le-suc}
-use mathlib.Core.Path.{_≡_, refl, sym, ap, _∙_}
+use Prim.Native.Nat.{ℕ, zero, suc, _+_, _-_, _/_, _%_, _^_, _≤_, _<_}
+use mathlib.Core.Path.{_≡_, refl, sym, ap, ap₂, _∙_}
 use mathlib.Core.List.{List, [], _∷_, _++_, append-nil}
 use native.Mathlib.Nat.{suc-add, add-suc, zero-add, add-zero, le-of-suc-le-suc, not-suc-le-zero, suc-inj}
 use native.Mathlib.Numerals.{add-one}
 use native.Mathlib.Omega.{arith}
-use lib.ListN.{length, take, drop, getD, set, length-set, length-take, length-drop, take-append-drop}
+use lib.ListN.{length, take, drop, getD, set, length-set, length-take, length-drop, take-append-drop, drop-of-length-le}
 use lib.Seq.{sets, length-sets, set-out, take-suc, take-length, take-all, drop-set-lt, take-set-le, length-take-le, take-append-seam}
+use Rattle.wire.specs.Field.{octets}
 use Rattle.wire.specs.Part.{part}
+use Rattle.wire.proofs.Fields.{length-octets, octets-mod, octets-split}
 
 -- ---- writes in a row, past the end, one place further
 
@@ -124,6 +126,27 @@ pub sets-of-part : (b n : ℕ) (o p : List ℕ) (i : ℕ) (vs : List ℕ) → p 
 sets-of-part b n o p i vs e h =
     sym (sets-lent b n o p (ap length e ∙ length-sets (part o b n) i vs))
     ∙ ap (λ (k : List ℕ). take b o ++ (k ++ drop n (drop b o))) e ∙ sets-in-part b n o i vs h
+
+-- All from a place on, as a slice has it; and what it became, come back.
+pub drop-slice : (l : List ℕ) (at : ℕ) → take (length l - at) (drop at l) ≡ drop at l
+drop-slice l at = take-all (length l - at) (drop at l) (omega (arith, length-drop at l))
+
+pub sets-lent-rest : (o p vs : List ℕ) (at : ℕ) → p ≡ sets (take (length o - at) (drop at o)) 0 vs
+    → take at o ++ (p ++ drop (length o - at) (drop at o)) ≡ sets o at vs
+sets-lent-rest o p vs at e =
+    ap₂ (λ (x y : List ℕ). take at o ++ (x ++ y)) (e ∙ ap (λ (l : List ℕ). sets l 0 vs) (drop-slice o at))
+    (drop-of-length-le (drop at o) {i = length o - at} (omega (arith, length-drop at o)))
+    ∙ ap (λ (l : List ℕ). take at o ++ l) (append-nil (sets (drop at o) 0 vs))
+    ∙ sets-lent-tail at o 0 vs ∙ ap (λ (k : ℕ). sets o k vs) (add-zero at)
+
+-- ---- a number written in two halves
+
+pub sets-halves : (n m : ℕ) (o p q : List ℕ) (at x : ℕ) → p ≡ sets o at (octets n (x / 256 ^ m))
+    → q ≡ sets p (at + n) (octets m (x % 256 ^ m)) → q ≡ sets o at (octets (n + m) x)
+sets-halves n m o p q at x e f =
+    f ∙ ap₂ (λ (l r : List ℕ). sets l (at + n) r) e (octets-mod m x)
+    ∙ ap (λ (k : ℕ). sets (sets o at (octets n (x / 256 ^ m))) (at + k) (octets m x)) (sym (length-octets n (x / 256 ^ m)))
+    ∙ sym (ap (sets o at) (octets-split n m x) ∙ sets-append o at (octets n (x / 256 ^ m)) (octets m x))
 
 -- ---- a loop that copies
 

@@ -9,6 +9,6 @@ pub use name::NameReading;
 pub use name::name_at;
 pub use name::same_name;
 pub use name::within;
+pub use write::write_octets;
 pub use write::write16;
 pub use write::write32;
-pub use write::write_octets;
