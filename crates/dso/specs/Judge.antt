@@ -133,10 +133,12 @@ unsubscribe v = cond (eqb (length v) 2) (Unsubscribe (mid (field 2 v))) Abort
 -- inferred from DSO-LENGTH". "There is no server response to a RECONFIRM message."
 abbrev pub disputed : ℕ → ℕ → Record
 disputed n d =
-    record { name = place dataStart n;
+    record {
+      name = place dataStart n;
       rtype = place (dataStart + n) 2;
       class = place (dataStart + n + 2) 2;
-      rdata = place (dataStart + n + 4) (d - (n + 4)) }
+      rdata = place (dataStart + n + 4) (d - (n + 4));
+    }
 
 abbrev pub disputes : List ℕ → Option ℕ → Judgment
 disputes v none = Abort

@@ -8,7 +8,6 @@ use crate::judgment::ReplyCode;
 use wire::NameReading;
 use wire::field16;
 use wire::name_at;
-
 ghost use mathlib.Core.Path.{_≡_};
 ghost use Rattle.dso.specs.Judge.{keepalive as keepaliveOf, subscribe as subscribeOf, unsubscribe as unsubscribeOf, reconfirm as reconfirmOf};
 
@@ -33,8 +32,14 @@ pub fn subscribe(id: MessageId, s: &[u8]) -> Judgment
             id,
             Question {
                 name: Place { start: 16, len: n },
-                rtype: Place { start: 16 + n, len: 2 },
-                class: Place { start: 16 + n + 2, len: 2 },
+                rtype: Place {
+                    start: 16 + n,
+                    len: 2,
+                },
+                class: Place {
+                    start: 16 + n + 2,
+                    len: 2,
+                },
             },
         )
     } else {
@@ -69,8 +74,17 @@ pub fn reconfirm(s: &[u8]) -> Judgment
     }
     Judgment::Reconfirm(Record {
         name: Place { start: 16, len: n },
-        rtype: Place { start: 16 + n, len: 2 },
-        class: Place { start: 16 + n + 2, len: 2 },
-        rdata: Place { start: 16 + n + 4, len: s.len() - (n + 4) },
+        rtype: Place {
+            start: 16 + n,
+            len: 2,
+        },
+        class: Place {
+            start: 16 + n + 2,
+            len: 2,
+        },
+        rdata: Place {
+            start: 16 + n + 4,
+            len: s.len() - (n + 4),
+        },
     })
 }

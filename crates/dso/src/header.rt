@@ -1,6 +1,5 @@
 // The header's fields.
 use wire::field16;
-
 ghost use mathlib.Core.Path.{_≡_};
 ghost use Rattle.dso.specs.Header.{opcode, isResponse, noRecords};
 

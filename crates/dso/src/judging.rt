@@ -10,7 +10,6 @@ use crate::judgment::ReplyCode;
 use crate::opening::Start;
 use crate::opening::opened;
 use wire::field16;
-
 ghost use mathlib.Core.Path.{_≡_};
 ghost use Prim.Native.Nat.{_+_, _≤_};
 ghost use lib.ListN.{length, take, drop};
@@ -22,23 +21,38 @@ fn request(id: MessageId, kind: u16, s: &[u8]) -> Judgment
     requires { ⌜ (id .0 ≡ 0 → ⊥) ⌝ }
     ensures { λ r. ⌜ r ≡ byType (id .0) kind (now (s .entry)) ⌝ }
 {
-    match kind {
-        2 | 0x41 | 0x42 | 0x43 => Judgment::Abort,
-        1 => keepalive(id, s),
-        0x40 => subscribe(id, s),
-        _ => Judgment::Reply(id, ReplyCode::DsoTypeNi),
+    if kind == 2 {
+        return Judgment::Abort;
     }
+    if kind == 0x41 {
+        return Judgment::Abort;
+    }
+    if kind == 1 {
+        return keepalive(id, s);
+    }
+    if kind == 0x40 {
+        return subscribe(id, s);
+    }
+    if kind == 0x42 {
+        return Judgment::Abort;
+    }
+    if kind == 0x43 {
+        return Judgment::Abort;
+    }
+    Judgment::Reply(id, ReplyCode::DsoTypeNi)
 }
 
 // With ID zero: nothing is ever answered.
 fn unidirectional(kind: u16, s: &[u8]) -> Judgment
     ensures { λ r. ⌜ r ≡ byType 0 kind (now (s .entry)) ⌝ }
 {
-    match kind {
-        0x42 => unsubscribe(s),
-        0x43 => reconfirm(s),
-        _ => Judgment::Abort,
+    if kind == 0x42 {
+        return unsubscribe(s);
     }
+    if kind == 0x43 {
+        return reconfirm(s);
+    }
+    Judgment::Abort
 }
 
 fn by_type(id: MessageId, kind: u16, s: &[u8]) -> Judgment

@@ -1,7 +1,6 @@
 // Which records a subscription asks for, and whether octets are a whole name.
 use wire::NameReading;
 use wire::name_at;
-
 ghost use mathlib.Core.Path.{_≡_};
 ghost use Rattle.wire.specs.Name.{isName};
 ghost use Rattle.dso.specs.Match.{asksClass, asksType, asksFor};

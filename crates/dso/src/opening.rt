@@ -7,7 +7,6 @@ use crate::judgment::MessageId;
 use crate::judgment::ReplyCode;
 use crate::tlv::tlvs_fill;
 use wire::field16;
-
 ghost use mathlib.Core.Path.{_≡_};
 ghost use Rattle.dso.specs.Header.{messageId};
 ghost use Rattle.dso.specs.Judge.{badForm, formOf, opening};

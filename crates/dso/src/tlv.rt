@@ -1,6 +1,5 @@
 // TLVs that fill a message.
 use wire::field16;
-
 ghost use mathlib.Core.Path.{_≡_};
 ghost use lib.ListN.{drop};
 ghost use Rattle.dso.specs.Tlv.{filled};

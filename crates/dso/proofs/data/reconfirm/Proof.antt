@@ -1,85 +1,81 @@
+-- `dso::data::reconfirm` meets its contract: the name reading, the length, the type and the class decide.
+-- Assumes nothing.
+use borrow.Author.Tests.{lt-ltb, le-ltb}
+use Rattle.wire.proofs.Names.{nameAt-name, nameAt-none}
+use Rattle.dso.specs.Judge.{reconfirm}
+use Rattle.dso.proofs.Reading.{name-max, is, isnt}
+use borrow.Author.Needs.{needs}
+use native.Mathlib.Omega.{arith}
 use Rattle.dso.proofs.data.reconfirm.Statement.{statement}
 use Rattle.dso.proofs.data.reconfirm.Tie as tie
-use Rattle.dso.proofs.data.reconfirm.Reads as reads
-use Rattle.dso.proofs.data.reconfirm.Lts as lts
-use Rattle.wire.proofs.field16.Reads as field16-reads
-use Rattle.wire.proofs.name_at.Reads as name-at-reads
 
--- src/data.rt:58:32
 name-at-requires : tie.Need-name-at-requires
-name-at-requires c κs = ?
+name-at-requires c κs = search needs
 
--- src/data.rt:58:27
 enum-known-n : tie.Need-enum-known-n
-enum-known-n c = ?
+enum-known-n c = search needs
 
--- src/data.rt:59:9
 enum-told : tie.Need-enum-told
-enum-told c = ?
+enum-told c = search needs
 
--- src/data.rt:59:9
 returns : tie.Need-returns
-returns c = ?
+unfolding reconfirm
+returns c = rw (nameAt-none _ _ 0 (c .before .before .name-at .ensures) (c .enum-told .given .1))
 
--- src/data.rt:61:18
 add-if1 : tie.Need-add-if1
-add-if1 c = ?
+add-if1 c = omega (arith, name-max _ _ _ (c .before .before .before .name-at .ensures) (c .before .n .given .1))
 
--- src/data.rt:62:9
 returns-2 : tie.Need-returns-2
-returns-2 c = ?
+unfolding reconfirm
+returns-2 c = rw (nameAt-name _ _ 0 _ (c .before .before .before .before .name-at .ensures) (c .before .before .n .given .1), lt-ltb _ _ (c .if1 .taken))
 
--- src/data.rt:64:8
 field16-requires : tie.Need-field16-requires
-field16-requires c κs = ?
+field16-requires c κs = search needs
 
--- src/data.rt:65:9
 returns-3 : tie.Need-returns-3
-returns-3 c = ?
+unfolding reconfirm
+returns-3 c =
+    let at-name = c .before .before .before .before in
+    rw (nameAt-name _ _ 0 _ (at-name .before .before .name-at .ensures) (at-name .n .given .1), le-ltb _ _ (c .before .before .if1 .left), is 255 (c .before .field16 .ensures) (c .if2 .taken))
 
--- src/data.rt:67:19
 add-field16 : tie.Need-add-field16
-add-field16 c = ?
+add-field16 c = omega (arith, name-max _ _ _ (c .before .before .before .before .before .before .name-at .ensures) (c .before .before .before .before .n .given .1))
 
--- src/data.rt:67:8
 field16-requires-2 : tie.Need-field16-requires-2
-field16-requires-2 c κs = ?
+field16-requires-2 c κs = search needs
 
--- src/data.rt:68:9
 returns-4 : tie.Need-returns-4
-returns-4 c = ?
+unfolding reconfirm
+returns-4 c =
+    let at-name = c .before .before .before .before .before .before in
+    rw (nameAt-name _ _ 0 _ (at-name .before .before .name-at .ensures) (at-name .n .given .1), le-ltb _ _ (c .before .before .before .before .if1 .left), isnt 255 (c .before .before .before .field16 .ensures) (c .before .before .if2 .left), is 255 (c .before .field162 .ensures) (c .if3 .taken))
 
--- src/data.rt:72:31
 add-t5 : tie.Need-add-t5
-add-t5 c = ?
+add-t5 c = omega (arith, name-max _ _ _ (c .before .before .before .before .before .before .before .before .name-at .ensures) (c .before .before .before .before .before .before .n .given .1))
 
--- src/data.rt:73:31
 add-t4 : tie.Need-add-t4
-add-t4 c = ?
+add-t4 c = omega (arith, name-max _ _ _ (c .before .before .before .before .before .before .before .before .name-at .ensures) (c .before .before .before .before .before .before .n .given .1))
 
--- src/data.rt:73:31
 add-t10 : tie.Need-add-t10
-add-t10 c = ?
+add-t10 c = omega (arith, name-max _ _ _ (c .before .before .before .before .before .before .before .before .name-at .ensures) (c .before .before .before .before .before .before .n .given .1))
 
--- src/data.rt:74:31
 add-t12 : tie.Need-add-t12
-add-t12 c = ?
+add-t12 c = omega (arith, name-max _ _ _ (c .before .before .before .before .before .before .before .before .name-at .ensures) (c .before .before .before .before .before .before .n .given .1))
 
--- src/data.rt:74:31
 add-t13 : tie.Need-add-t13
-add-t13 c = ?
+add-t13 c = omega (arith, name-max _ _ _ (c .before .before .before .before .before .before .before .before .name-at .ensures) (c .before .before .before .before .before .before .n .given .1))
 
--- src/data.rt:74:59
 add-t15 : tie.Need-add-t15
-add-t15 c = ?
+add-t15 c = omega (arith, name-max _ _ _ (c .before .before .before .before .before .before .before .before .name-at .ensures) (c .before .before .before .before .before .before .n .given .1))
 
--- src/data.rt:74:48
 sub-t16 : tie.Need-sub-t16
-sub-t16 c = ?
+sub-t16 c = search needs
 
--- src/data.rt:55:1
 returns-5 : tie.Need-returns-5
-returns-5 c = ?
+unfolding reconfirm
+returns-5 c =
+    let at-name = c .before .before .before .before .before .before in
+    rw (nameAt-name _ _ 0 _ (at-name .before .before .name-at .ensures) (at-name .n .given .1), le-ltb _ _ (c .before .before .before .before .if1 .left), isnt 255 (c .before .before .before .field16 .ensures) (c .before .before .if2 .left), isnt 255 (c .before .field162 .ensures) (c .if3 .left))
 
 pub reconfirm-spec : {M : Type 1} → statement M
 reconfirm-spec =

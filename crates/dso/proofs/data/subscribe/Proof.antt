@@ -1,48 +1,46 @@
+-- `dso::data::subscribe` meets its contract: the name reading, then the length, decide.
+-- Assumes nothing.
+use borrow.Author.Tests.{eq-eqb, ne-eqb}
+use Rattle.wire.proofs.Names.{nameAt-name, nameAt-none}
+use Rattle.dso.specs.Judge.{subscribe}
+use Rattle.dso.proofs.Reading.{name-max}
+use borrow.Author.Needs.{needs}
+use native.Mathlib.Omega.{arith}
 use Rattle.dso.proofs.data.subscribe.Statement.{statement}
 use Rattle.dso.proofs.data.subscribe.Tie as tie
-use Rattle.dso.proofs.data.subscribe.Reads as reads
-use Rattle.dso.proofs.data.subscribe.Lts as lts
-use Rattle.wire.proofs.name_at.Reads as name-at-reads
 
--- src/data.rt:28:32
 name-at-requires : tie.Need-name-at-requires
-name-at-requires c κs = ?
+name-at-requires c κs = search needs
 
--- src/data.rt:28:27
 enum-known-n : tie.Need-enum-known-n
-enum-known-n c = ?
+enum-known-n c = search needs
 
--- src/data.rt:29:36
 enum-told : tie.Need-enum-told
-enum-told c = ?
+enum-told c = search needs
 
--- src/data.rt:29:9
 returns : tie.Need-returns
-returns c = ?
+unfolding subscribe
+returns c = rw (nameAt-none _ _ 0 (c .before .before .name-at .ensures) (c .enum-told .given .1))
 
--- src/data.rt:31:19
 add-if1 : tie.Need-add-if1
-add-if1 c = ?
+add-if1 c = omega (arith, name-max _ _ _ (c .before .before .before .name-at .ensures) (c .before .n .given .1))
 
--- src/data.rt:36:39
 add-t11 : tie.Need-add-t11
-add-t11 c = ?
+add-t11 c = omega (arith, name-max _ _ _ (c .before .before .before .before .name-at .ensures) (c .before .before .n .given .1))
 
--- src/data.rt:37:39
 add-t13 : tie.Need-add-t13
-add-t13 c = ?
+add-t13 c = omega (arith, name-max _ _ _ (c .before .before .before .before .name-at .ensures) (c .before .before .n .given .1))
 
--- src/data.rt:37:39
 add-t14 : tie.Need-add-t14
-add-t14 c = ?
+add-t14 c = omega (arith, name-max _ _ _ (c .before .before .before .before .name-at .ensures) (c .before .before .n .given .1))
 
--- src/data.rt:25:1
 returns-2 : tie.Need-returns-2
-returns-2 c = ?
+unfolding subscribe
+returns-2 c = rw (nameAt-name _ _ 0 _ (c .before .before .before .before .name-at .ensures) (c .before .before .n .given .1), eq-eqb _ _ (c .if1 .taken))
 
--- src/data.rt:25:1
 returns-3 : tie.Need-returns-3
-returns-3 c = ?
+unfolding subscribe
+returns-3 c = rw (nameAt-name _ _ 0 _ (c .before .before .before .before .name-at .ensures) (c .before .before .n .given .1), ne-eqb _ _ (c .if1 .left))
 
 pub subscribe-spec : {M : Type 1} → statement M
 subscribe-spec =

@@ -32,7 +32,7 @@ field16-requires-3 c κs = search needs
 -- src/header.rt:29:9
 returns-3 : tie.Need-returns-3
 unfolding noRecords
-returns-3 c = 
+returns-3 c =
     let first = c .before .before .before .before in
     rw (is 0 (first .before .field16 .ensures) (first .if1 .left), is 0 (c .before .before .before .field162 .ensures) (c .before .before .if2 .left), isnt 0 (c .before .field163 .ensures) (c .if3 .taken))
 
@@ -43,7 +43,7 @@ field16-requires-4 c κs = search needs
 -- src/header.rt:19:1
 returns-4 : tie.Need-returns-4
 unfolding noRecords
-returns-4 c = 
+returns-4 c =
     let third = c .before in
     let second = third .before .before in
     let first = second .before .before in

@@ -1,25 +1,20 @@
+-- `dso::judging::by_type` meets its contract: the ID decides which of the two is called.
+-- Assumes nothing.
+use borrow.Author.Needs.{needs}
 use Rattle.dso.proofs.judging.by_type.Statement.{statement}
 use Rattle.dso.proofs.judging.by_type.Tie as tie
-use Rattle.dso.proofs.judging.by_type.Reads as reads
-use Rattle.dso.proofs.judging.by_type.Lts as lts
-use Rattle.dso.proofs.judging.request.Reads as request-reads
-use Rattle.dso.proofs.judging.unidirectional.Reads as unidirectional-reads
 
--- src/judging.rt:48:9
 unidirectional-requires : tie.Need-unidirectional-requires
-unidirectional-requires c κs = ?
+unidirectional-requires c κs = search needs
 
--- src/judging.rt:50:9
 request-requires : tie.Need-request-requires
-request-requires c κs = ?
+request-requires c κs = c .if1 .left
 
--- src/judging.rt:44:1
 returns : tie.Need-returns
-returns c = ?
+returns c = rw (c .before .if1 .taken) (c .unidirectional .ensures)
 
--- src/judging.rt:44:1
 returns-2 : tie.Need-returns-2
-returns-2 c = ?
+returns-2 c = c .request .ensures
 
 pub by-type-spec : {M : Type 1} → statement M
 by-type-spec = tie.close (tie.spec unidirectional-requires request-requires returns returns-2)

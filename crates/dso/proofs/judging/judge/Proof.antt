@@ -1,33 +1,27 @@
+-- `dso::judging::judge` meets its contract by the laws of the opening.
+-- Assumes nothing.
+use Rattle.dso.proofs.Openings.{primary-fits, judged-settled, judged-primary}
+use borrow.Author.Needs.{needs}
 use Rattle.dso.proofs.judging.judge.Statement.{statement}
 use Rattle.dso.proofs.judging.judge.Tie as tie
-use Rattle.dso.proofs.judging.judge.Reads as reads
-use Rattle.dso.proofs.judging.judge.Lts as lts
-use Rattle.dso.proofs.judging.primary.Reads as primary-reads
-use Rattle.dso.proofs.opening.opened.Reads as opened-reads
 
--- src/judging.rt:67:11
 opened-requires : tie.Need-opened-requires
-opened-requires c κs = ?
+opened-requires c κs = search needs
 
--- src/judging.rt:68:24
 enum-known-j : tie.Need-enum-known-j
-enum-known-j c = ?
+enum-known-j c = search needs
 
--- src/judging.rt:72:24
 enum-known-kind : tie.Need-enum-known-kind
-enum-known-kind c = ?
+enum-known-kind c = search needs
 
--- src/judging.rt:73:23
 primary-requires : tie.Need-primary-requires
-primary-requires c κs = ?
+primary-requires c κs = primary-fits _ _ _ _ (c .before .before .before .opened .ensures) (c .before .kind .given .1)
 
--- src/judging.rt:64:1
 returns : tie.Need-returns
-returns c = ?
+returns c = judged-settled _ _ _ (c .before .before .before .opened .ensures) (c .before .j .given .1)
 
--- src/judging.rt:64:1
 returns-2 : tie.Need-returns-2
-returns-2 c = ?
+returns-2 c = judged-primary _ _ _ _ (c .before .before .before .before .opened .ensures) (c .before .before .kind .given .1) _ (c .primary .ensures)
 
 pub judge-spec : {M : Type 1} → statement M
 judge-spec =

@@ -1,37 +1,32 @@
+-- `dso::judging::primary` meets its contract: the part that is lent is the TLV's data.
+-- Assumes nothing.
+use Rattle.dso.proofs.Openings.{data-part}
+use borrow.Author.Needs.{needs}
 use Rattle.dso.proofs.judging.primary.Statement.{statement}
 use Rattle.dso.proofs.judging.primary.Tie as tie
-use Rattle.dso.proofs.judging.primary.Reads as reads
-use Rattle.dso.proofs.judging.primary.Lts as lts
-use Rattle.dso.proofs.judging.by_type.Reads as by-type-reads
-use Rattle.wire.proofs.field16.Reads as field16-reads
 
--- src/judging.rt:59:24
 field16-requires : tie.Need-field16-requires
-field16-requires c κs = ?
+field16-requires c κs = search needs
 
--- src/judging.rt:60:30
 add-by-type : tie.Need-add-by-type
-add-by-type c = ?
+add-by-type c = search needs
 
--- src/judging.rt:60:23
 sub-by-type : tie.Need-sub-by-type
-sub-by-type c = ?
+sub-by-type c = search needs
 
--- src/judging.rt:60:23
 part-by-type-start : tie.Need-part-by-type-start
-part-by-type-start c = ?
+part-by-type-start c = search needs
 
--- src/judging.rt:60:23
 part-by-type-end : tie.Need-part-by-type-end
-part-by-type-end c = ?
+part-by-type-end c = search needs
 
--- src/judging.rt:60:5
 by-type-requires : tie.Need-by-type-requires
-by-type-requires c κs = ?
+by-type-requires c κs = search needs
 
--- src/judging.rt:55:1
 returns : tie.Need-returns
-returns c = ?
+returns c =
+    let a = c .before .before .before .before .args in
+    data-part (a .m .now) _ (a .kind) (a .len) _ (c .before .before .field16 .ensures) (c .by-type .ensures)
 
 pub primary-spec : {M : Type 1} → statement M
 primary-spec =

@@ -1,30 +1,29 @@
+-- `dso::judging::unidirectional` meets its contract: with ID zero all other types abort.
+-- Assumes nothing.
+use Rattle.dso.specs.Judge.{byType}
+use Rattle.dso.proofs.Reading.{no-answer}
+use borrow.Author.Needs.{needs}
 use Rattle.dso.proofs.judging.unidirectional.Statement.{statement}
 use Rattle.dso.proofs.judging.unidirectional.Tie as tie
-use Rattle.dso.proofs.judging.unidirectional.Reads as reads
-use Rattle.dso.proofs.judging.unidirectional.Lts as lts
-use Rattle.dso.proofs.data.reconfirm.Reads as reconfirm-reads
-use Rattle.dso.proofs.data.unsubscribe.Reads as unsubscribe-reads
 
--- src/judging.rt:38:17
 unsubscribe-requires : tie.Need-unsubscribe-requires
-unsubscribe-requires c κs = ?
+unsubscribe-requires c κs = search needs
 
--- src/judging.rt:39:17
-reconfirm-requires : tie.Need-reconfirm-requires
-reconfirm-requires c κs = ?
-
--- src/judging.rt:34:1
 returns : tie.Need-returns
-returns c = ?
+unfolding byType
+returns c = rw (c .before .if1 .taken) (c .unsubscribe .ensures)
 
--- src/judging.rt:34:1
+reconfirm-requires : tie.Need-reconfirm-requires
+reconfirm-requires c κs = search needs
+
 returns-2 : tie.Need-returns-2
-returns-2 c = ?
+unfolding byType
+returns-2 c = rw (c .before .if2 .taken) (c .reconfirm .ensures)
 
--- src/judging.rt:34:1
 returns-3 : tie.Need-returns-3
-returns-3 c = ?
+unfolding byType
+returns-3 c = no-answer _ _ (c .before .if1 .left) (c .if2 .left)
 
 pub unidirectional-spec : {M : Type 1} → statement M
 unidirectional-spec =
-    tie.close (tie.spec unsubscribe-requires reconfirm-requires returns returns-2 returns-3)
+    tie.close (tie.spec unsubscribe-requires returns reconfirm-requires returns-2 returns-3)

@@ -1,15 +1,17 @@
+-- `dso::matching::asks_class` meets its contract: the tests in turn.
+-- Assumes nothing.
+use borrow.Author.Tests.{eq-eqb, ne-eqb}
+use Rattle.dso.specs.Match.{asksClass}
 use Rattle.dso.proofs.matching.asks_class.Statement.{statement}
 use Rattle.dso.proofs.matching.asks_class.Tie as tie
-use Rattle.dso.proofs.matching.asks_class.Reads as reads
-use Rattle.dso.proofs.matching.asks_class.Lts as lts
 
--- src/matching.rt:13:9
 returns : tie.Need-returns
-returns c = ?
+unfolding asksClass
+returns c = rw (eq-eqb _ _ (c .if1 .taken))
 
--- src/matching.rt:9:1
 returns-2 : tie.Need-returns-2
-returns-2 c = ?
+unfolding asksClass
+returns-2 c = rw (ne-eqb _ _ (c .if1 .left))
 
 pub asks-class-spec : {M : Type 1} → statement M
 asks-class-spec = tie.close (tie.spec returns returns-2)

@@ -1,19 +1,21 @@
+-- `dso::matching::asks_type` meets its contract: the tests in turn.
+-- Assumes nothing.
+use borrow.Author.Tests.{eq-eqb, ne-eqb}
+use Rattle.dso.specs.Match.{asksType}
 use Rattle.dso.proofs.matching.asks_type.Statement.{statement}
 use Rattle.dso.proofs.matching.asks_type.Tie as tie
-use Rattle.dso.proofs.matching.asks_type.Reads as reads
-use Rattle.dso.proofs.matching.asks_type.Lts as lts
 
--- src/matching.rt:22:9
 returns : tie.Need-returns
-returns c = ?
+unfolding asksType
+returns c = rw (eq-eqb _ _ (c .if1 .taken))
 
--- src/matching.rt:25:9
 returns-2 : tie.Need-returns-2
-returns-2 c = ?
+unfolding asksType
+returns-2 c = rw (ne-eqb _ _ (c .before .if1 .left), eq-eqb _ _ (c .if2 .taken))
 
--- src/matching.rt:18:1
 returns-3 : tie.Need-returns-3
-returns-3 c = ?
+unfolding asksType
+returns-3 c = rw (ne-eqb _ _ (c .before .if1 .left), ne-eqb _ _ (c .if2 .left))
 
 pub asks-type-spec : {M : Type 1} → statement M
 asks-type-spec = tie.close (tie.spec returns returns-2 returns-3)

@@ -1,28 +1,27 @@
+-- `dso::matching::is_name` meets its contract: the name reading, then the length.
+-- Assumes nothing.
+use Rattle.wire.specs.Name.{isName}
+use Rattle.wire.proofs.Names.{nameAt-name, nameAt-none}
+use borrow.Author.Needs.{needs}
 use Rattle.dso.proofs.matching.is_name.Statement.{statement}
 use Rattle.dso.proofs.matching.is_name.Tie as tie
-use Rattle.dso.proofs.matching.is_name.Reads as reads
-use Rattle.dso.proofs.matching.is_name.Lts as lts
-use Rattle.wire.proofs.name_at.Reads as name-at-reads
 
--- src/matching.rt:29:32
 name-at-requires : tie.Need-name-at-requires
-name-at-requires c κs = ?
+name-at-requires c κs = search needs
 
--- src/matching.rt:29:27
 enum-known-n : tie.Need-enum-known-n
-enum-known-n c = ?
+enum-known-n c = search needs
 
--- src/matching.rt:30:9
 enum-told : tie.Need-enum-told
-enum-told c = ?
+enum-told c = search needs
 
--- src/matching.rt:30:9
 returns : tie.Need-returns
-returns c = ?
+unfolding isName
+returns c = rw (nameAt-none _ _ 0 (c .before .before .name-at .ensures) (c .enum-told .given .1))
 
--- src/matching.rt:26:1
 returns-2 : tie.Need-returns-2
-returns-2 c = ?
+unfolding isName
+returns-2 c = rw (nameAt-name _ _ 0 _ (c .before .before .before .name-at .ensures) (c .before .n .given .1))
 
 pub is-name-spec : {M : Type 1} → statement M
 is-name-spec = tie.close (tie.spec name-at-requires enum-known-n enum-told returns returns-2)

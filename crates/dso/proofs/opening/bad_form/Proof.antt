@@ -1,21 +1,26 @@
+-- `dso::opening::bad_form` meets its contract: the ID decides.
+-- Assumes nothing.
+use Prim.Native.Nat.{ℕ}
+use mathlib.Core.Path.{ap}
+use Rattle.dso.specs.Header.{messageId}
+use Rattle.dso.specs.Judge.{badForm, mid}
+use Rattle.dso.specs.declared.judgment.ReplyCode.the-variants.{FormErr}
+use Rattle.dso.specs.declared.judgment.Judgment.the-variants.{Reply}
+use Rattle.dso.proofs.Reading.{is, isnt}
 use borrow.Author.Needs.{needs}
 use Rattle.dso.proofs.opening.bad_form.Statement.{statement}
 use Rattle.dso.proofs.opening.bad_form.Tie as tie
-use Rattle.dso.proofs.opening.bad_form.Reads as reads
-use Rattle.dso.proofs.opening.bad_form.Lts as lts
-use Rattle.wire.proofs.field16.Reads as field16-reads
 
--- src/opening.rt:25:9
 field16-requires : tie.Need-field16-requires
 field16-requires c κs = search needs
 
--- src/opening.rt:22:1
 returns : tie.Need-returns
-returns c = ?
+unfolding badForm messageId
+returns c = rw (is 0 (c .before .field16 .ensures) (c .if1 .taken))
 
--- src/opening.rt:22:1
 returns-2 : tie.Need-returns-2
-returns-2 c = ?
+unfolding badForm messageId
+returns-2 c = rw (isnt 0 (c .before .field16 .ensures) (c .if1 .left)) (ap (λ (x : ℕ). Reply (mid x) FormErr) (c .before .field16 .ensures))
 
 pub bad-form-spec : {M : Type 1} → statement M
 bad-form-spec = tie.close (tie.spec field16-requires returns returns-2)

@@ -1,39 +1,37 @@
+-- `dso::opening::opened` meets its contract: the tests of step 1 in turn.
+-- Assumes nothing.
+use mathlib.Core.Path.{sym, _∙_}
+use borrow.Author.Tests.{lt-ltb, le-ltb}
+use Rattle.dso.specs.Judge.{opening}
+use Rattle.dso.proofs.Reading.{is, isnt}
 use borrow.Author.Needs.{needs}
 use Rattle.dso.proofs.opening.opened.Statement.{statement}
 use Rattle.dso.proofs.opening.opened.Tie as tie
-use Rattle.dso.proofs.opening.opened.Reads as reads
-use Rattle.dso.proofs.opening.opened.Lts as lts
-use Rattle.dso.proofs.header.is_response.Reads as is-response-reads
-use Rattle.dso.proofs.header.opcode_of.Reads as opcode-of-reads
-use Rattle.dso.proofs.opening.form.Reads as form-reads
 
--- src/opening.rt:58:9
 returns : tie.Need-returns
-returns c = ?
+unfolding opening
+returns c = rw (lt-ltb _ _ (c .if1 .taken))
 
--- src/opening.rt:60:8
 opcode-of-requires : tie.Need-opcode-of-requires
 opcode-of-requires c κs = search needs
 
--- src/opening.rt:61:9
 returns-2 : tie.Need-returns-2
-returns-2 c = ?
+unfolding opening
+returns-2 c = rw (le-ltb _ _ (c .before .before .if1 .left), isnt 6 (c .before .opcode-of .ensures) (c .if2 .taken))
 
--- src/opening.rt:63:8
 is-response-requires : tie.Need-is-response-requires
 is-response-requires c κs = search needs
 
--- src/opening.rt:64:9
 returns-3 : tie.Need-returns-3
-returns-3 c = ?
+unfolding opening
+returns-3 c = rw (le-ltb _ _ (c .before .before .before .before .if1 .left), is 6 (c .before .before .before .opcode-of .ensures) (c .before .before .if2 .left), sym (c .before .is-response .ensures) ∙ c .if3 .taken)
 
--- src/opening.rt:66:5
 form-requires : tie.Need-form-requires
 form-requires c κs = search needs
 
--- src/opening.rt:54:1
 returns-4 : tie.Need-returns-4
-returns-4 c = ?
+unfolding opening
+returns-4 c = rw (le-ltb _ _ (c .before .before .before .before .before .if1 .left), is 6 (c .before .before .before .before .opcode-of .ensures) (c .before .before .before .if2 .left), sym (c .before .before .is-response .ensures) ∙ c .before .if3 .left) (c .form .ensures)
 
 pub opened-spec : {M : Type 1} → statement M
 opened-spec =

@@ -1,30 +1,29 @@
+-- `dso::opening::well_formed` meets its contract: the counts, the length and the TLVs in turn.
+-- Assumes nothing.
+use mathlib.Core.Path.{sym, _∙_}
+use borrow.Author.Tests.{lt-ltb, le-ltb}
+use Rattle.dso.specs.Steps.{wellFormed}
 use borrow.Author.Needs.{needs}
 use Rattle.dso.proofs.opening.well_formed.Statement.{statement}
 use Rattle.dso.proofs.opening.well_formed.Tie as tie
-use Rattle.dso.proofs.opening.well_formed.Reads as reads
-use Rattle.dso.proofs.opening.well_formed.Lts as lts
-use Rattle.dso.proofs.header.no_records.Reads as no-records-reads
-use Rattle.dso.proofs.tlv.tlvs_fill.Reads as tlvs-fill-reads
 
--- src/opening.rt:36:8
 no-records-requires : tie.Need-no-records-requires
 no-records-requires c κs = search needs
 
--- src/opening.rt:38:13
 tlvs-fill-requires : tie.Need-tlvs-fill-requires
 tlvs-fill-requires c κs = search needs
 
--- src/opening.rt:38:13
 returns : tie.Need-returns
-returns c = ?
+unfolding wellFormed
+returns c = rw (sym (c .before .before .before .no-records .ensures) ∙ c .before .before .if1 .taken, lt-ltb _ _ (c .before .if2 .taken)) (c .tlvs-fill .ensures)
 
--- src/opening.rt:33:1
 returns-2 : tie.Need-returns-2
-returns-2 c = ?
+unfolding wellFormed
+returns-2 c = rw (sym (c .before .before .no-records .ensures) ∙ c .before .if1 .taken, le-ltb _ _ (c .if2 .left))
 
--- src/opening.rt:33:1
 returns-3 : tie.Need-returns-3
-returns-3 c = ?
+unfolding wellFormed
+returns-3 c = rw (sym (c .before .no-records .ensures) ∙ c .if1 .left)
 
 pub well-formed-spec : {M : Type 1} → statement M
 well-formed-spec =

@@ -1,70 +1,62 @@
+-- `dso::tlv::tlvs_fill` meets its contract. The invariant: TLVs fill the message from where it began exactly if they do from here on.
+-- Assumes nothing.
+use Prim.Native.Nat.{_-_}
+use mathlib.Core.Path.{_≡_, refl, sym, _∙_}
+use lib.ListN.{length, drop}
+use Rattle.dso.specs.Tlv.{filled}
+use Rattle.dso.proofs.Tlvs.{filled-next, filled-cut, filled-end}
+use borrow.Author.Needs.{needs}
+use native.Mathlib.Omega.{arith}
 use Rattle.dso.proofs.tlv.tlvs_fill.Statement.{statement}
 use Rattle.dso.proofs.tlv.tlvs_fill.Tie as tie
-use Rattle.dso.proofs.tlv.tlvs_fill.Reads as reads
-use Rattle.dso.proofs.tlv.tlvs_fill.Lts as lts
-use Rattle.wire.proofs.field16.Reads as field16-reads
 
 abbrev Inv-loop : tie.InvT-loop
-Inv-loop m from at₀ at = ?
+Inv-loop m from at₀ at = filled (drop from m) ≡ filled (drop at m)
 
 abbrev μ-loop : tie.MeasureT-loop
-μ-loop m from at₀ at = ?
+μ-loop m from at₀ at = length m - at
 
--- src/tlv.rt:13:5
 loop-holds : tie.Need-loop-holds Inv-loop μ-loop
-loop-holds c = ?
+loop-holds c = refl
 
--- src/tlv.rt:14:12
 sub-if1 : tie.Need-sub-if1 Inv-loop μ-loop
-sub-if1 c = ?
+sub-if1 c = omega arith
 
--- src/tlv.rt:15:13
 returns : tie.Need-returns Inv-loop μ-loop
-returns c = ?
+returns c = sym (c .before .before .loop .inv ∙ filled-cut _ _ _ refl (c .before .loop-test .taken) (omega arith))
 
--- src/tlv.rt:17:28
 add-field16 : tie.Need-add-field16 Inv-loop μ-loop
-add-field16 c = ?
+add-field16 c = omega arith
 
--- src/tlv.rt:17:17
 field16-requires : tie.Need-field16-requires Inv-loop μ-loop
-field16-requires c κs = ?
+field16-requires c κs = search needs
 
--- src/tlv.rt:17:17
 cast-n : tie.Need-cast-n Inv-loop μ-loop
-cast-n c = ?
+cast-n c = search needs
 
--- src/tlv.rt:18:12
 sub-if2 : tie.Need-sub-if2 Inv-loop μ-loop
-sub-if2 c = ?
+sub-if2 c = omega arith
 
--- src/tlv.rt:18:12
 sub-if2-2 : tie.Need-sub-if2-2 Inv-loop μ-loop
-sub-if2-2 c = ?
+sub-if2-2 c = omega arith
 
--- src/tlv.rt:19:13
 returns-2 : tie.Need-returns-2 Inv-loop μ-loop
-returns-2 c = ?
+returns-2 c = sym (c .before .before .before .before .loop .inv ∙ filled-cut _ _ _ (c .before .field16 .ensures) (c .before .before .before .loop-test .taken) (omega arith))
 
--- src/tlv.rt:21:15
 add-at : tie.Need-add-at Inv-loop μ-loop
-add-at c = ?
+add-at c = omega arith
 
--- src/tlv.rt:21:9
 add-at-2 : tie.Need-add-at-2 Inv-loop μ-loop
-add-at-2 c = ?
+add-at-2 c = omega arith
 
--- src/tlv.rt:13:5
 loop-less : tie.Need-loop-less Inv-loop μ-loop
-loop-less c = ?
+loop-less c = omega arith
 
--- src/tlv.rt:13:5
 loop-again : tie.Need-loop-again Inv-loop μ-loop
-loop-again c = ?
+loop-again c = c .before .before .before .before .loop .inv ∙ filled-next _ _ _ (c .before .field16 .ensures) (omega arith)
 
--- src/tlv.rt:9:1
 returns-3 : tie.Need-returns-3 Inv-loop μ-loop
-returns-3 c = ?
+returns-3 c = sym (c .before .loop .inv ∙ filled-end _ _ (c .loop-test .left))
 
 pub tlvs-fill-spec : {M : Type 1} → statement M
 tlvs-fill-spec =
