@@ -1,0 +1,4 @@
+-- Laws of the DSO layer that several proofs, and the layers above, cite.
+pub mod Openings
+pub mod Reading
+pub mod Tlvs
