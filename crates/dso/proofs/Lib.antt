@@ -2,3 +2,4 @@
 pub mod Openings
 pub mod Reading
 pub mod Tlvs
+pub mod Judgments
