@@ -5,3 +5,4 @@ pub mod Quiet
 pub mod Checks
 pub mod Plain
 pub mod Batch
+pub mod Replies
