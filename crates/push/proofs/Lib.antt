@@ -1,0 +1,3 @@
+-- Laws of change notifications.
+pub mod Effects
+pub mod Covers
