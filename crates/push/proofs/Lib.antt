@@ -1,3 +1,6 @@
 -- Laws of change notifications.
 pub mod Effects
 pub mod Covers
+pub mod Chosen
+pub mod Pigeonhole
+pub mod Firsts
