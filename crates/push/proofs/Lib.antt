@@ -4,3 +4,4 @@ pub mod Covers
 pub mod Chosen
 pub mod Pigeonhole
 pub mod Firsts
+pub mod Arrive
