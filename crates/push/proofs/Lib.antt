@@ -5,3 +5,5 @@ pub mod Chosen
 pub mod Pigeonhole
 pub mod Firsts
 pub mod Arrive
+pub mod Subscribing
+pub mod Sizes
