@@ -7,3 +7,5 @@ pub mod Firsts
 pub mod Arrive
 pub mod Subscribing
 pub mod Sizes
+pub mod Needed
+pub mod Fewest
