@@ -15,7 +15,8 @@ use Rattle.wire.proofs.Fields.{field-octets, length-octets}
 use Rattle.zone.specs.Lists.{allOf}
 use Rattle.push.specs.Change.{Change}
 use Rattle.push.specs.Octets.{changesOctets, unidirectional, pushType, pushOctets, pushOf, changesIn}
-use Rattle.push.specs.Plain.{plainChange, changesSize}
+use Rattle.push.specs.Measure.{bytes}
+use Rattle.push.specs.Plain.{plainChange}
 use Rattle.push.specs.Frames.{
   frameOf,
   oneMore,
@@ -144,7 +145,7 @@ unfolding pushOctets
 pushOctets-framed cs =
     ap (λ (n : ℕ). octets 2 n ++ pushMessage (changesOctets cs)) (sym (length-pushMessage (changesOctets cs)))
 
-pub length-pushOctets : (cs : List Change) → length (pushOctets cs) ≡ 18 + changesSize cs
+pub length-pushOctets : (cs : List Change) → length (pushOctets cs) ≡ 18 + bytes cs
 length-pushOctets cs =
     ap length (pushOctets-framed cs)
     ∙ omega (arith, length-framed (pushMessage (changesOctets cs)), length-pushMessage (changesOctets cs), length-changesOctets cs)
@@ -152,7 +153,7 @@ length-pushOctets cs =
 -- A list of changes whose PUSH has a length: with the 16 octets before them they take at most 65,535.
 pub record Sendable (cs : List Change) : Type 0 where
   pub plain : allOf plainChange cs ≡ true
-  pub short : 16 + changesSize cs ≤ 65535
+  pub short : 16 + bytes cs ≤ 65535
 
 short-message : (cs : List Change) → Sendable cs → length (pushMessage (changesOctets cs)) < 65536
 short-message cs s = omega (arith, s .short, length-pushMessage (changesOctets cs), length-changesOctets cs)

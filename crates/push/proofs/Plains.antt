@@ -50,7 +50,8 @@ use Rattle.push.specs.List.{
   changes,
 }
 use Rattle.push.specs.Octets.{changesOctets, pushOctets, pushOf}
-use Rattle.push.specs.Plain.{notAny, plainValues, plainChange, changeSize, changesSize, maxPush}
+use Rattle.push.specs.Plain.{notAny, plainValues, plainChange, maxPush}
+use Rattle.push.specs.Measure.{bytes}
 use Rattle.push.proofs.Framing.{Sendable, length-pushOctets, pushOf-nil, pushOf-cons}
 
 -- ---- what holds of every change at a record
@@ -107,12 +108,12 @@ module _ (p : Record → Bool) (q : Change → Bool) (each : AtEach p q) where
 -- ---- plain changes of at most 393 octets
 
 abbrev pub plainShort : Change → Bool
-plainShort c = plainChange c && leb (changeSize c) maxSize
+plainShort c = plainChange c && leb (size (fieldsOf c)) maxSize
 
 plain-short : (c : Change) → Fitting (fieldsOf c) → plainValues c ≡ true → length (fieldsOf c .rdata) ≤ maxRdata → plainShort c ≡ true
 unfolding plainChange
 plain-short c f v d =
-    and-both (and-both (fits-of (fieldsOf c) f) v) (le-leb (changeSize c) maxSize (size-max (fieldsOf c) (f .name) d))
+    and-both (and-both (fits-of (fieldsOf c) f) v) (le-leb (size (fieldsOf c)) maxSize (size-max (fieldsOf c) (f .name) d))
 
 plain-not-any : (x : ℕ) → isPlain x ≡ true → notAny x ≡ true
 plain-not-any x p = and-right (not (eqb x 0)) (notAny x) p
@@ -189,18 +190,17 @@ plain-at zone = record {
 -- ---- how long
 
 -- So many octets at most take changes that are not over the limit.
-pub changesSize-le : (cs : List Change) → allOf plainShort cs ≡ true → changesSize cs ≤ maxSize * length cs
-unfolding changesSize
-changesSize-le [] h = lit≤ tt
-changesSize-le (c ∷ cs) h =
-    let k : changeSize c ≤ maxSize = leb-true (changeSize c) maxSize (and-right (plainChange c) (leb (changeSize c) maxSize) (and-left (plainShort c) (allOf plainShort cs) h)) in
-    omega (arith, k, changesSize-le cs (and-right (plainShort c) (allOf plainShort cs) h))
+pub bytes-le : (cs : List Change) → allOf plainShort cs ≡ true → bytes cs ≤ maxSize * length cs
+bytes-le [] h = lit≤ tt
+bytes-le (c ∷ cs) h =
+    let k : size (fieldsOf c) ≤ maxSize = leb-true (size (fieldsOf c)) maxSize (and-right (plainChange c) (leb (size (fieldsOf c)) maxSize) (and-left (plainShort c) (allOf plainShort cs) h)) in
+    omega (arith, k, bytes-le cs (and-right (plainShort c) (allOf plainShort cs) h))
 
 pub all-plain : (cs : List Change) → allOf plainShort cs ≡ true → allOf plainChange cs ≡ true
-all-plain cs h = allOf-map plainShort plainChange cs (λ c e. and-left (plainChange c) (leb (changeSize c) maxSize) e) h
+all-plain cs h = allOf-map plainShort plainChange cs (λ c e. and-left (plainChange c) (leb (size (fieldsOf c)) maxSize) e) h
 
 pub length-pushOctets-le : (cs : List Change) → allOf plainShort cs ≡ true → length (pushOctets cs) ≤ 18 + maxSize * length cs
-length-pushOctets-le cs h = omega (arith, length-pushOctets cs, changesSize-le cs h)
+length-pushOctets-le cs h = omega (arith, length-pushOctets cs, bytes-le cs h)
 
 -- 01: "The largest PUSH is 12 + 4 + 40 x 393 = 15,736 bytes", with its length prefix before it.
 module _ (cs : List Change) (h : allOf plainShort cs ≡ true) (few : length cs ≤ maxRecords) where
@@ -212,7 +212,7 @@ module _ (cs : List Change) (h : allOf plainShort cs ≡ true) (few : length cs 
       go (c ∷ cs) h few = omega (arith, ap length (pushOf-cons c cs), length-pushOctets-le (c ∷ cs) h)
 
   pub sendable : Sendable cs
-  sendable = record { plain = all-plain cs h; short = omega (arith, changesSize-le cs h) }
+  sendable = record { plain = all-plain cs h; short = omega (arith, bytes-le cs h) }
 
 -- ---- sound stores
 

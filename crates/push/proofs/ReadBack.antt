@@ -31,7 +31,8 @@ use Rattle.push.specs.Change.{
   collectiveTtl,
 }
 use Rattle.push.specs.Octets.{changesOctets, Notified, change, ignored, fatal, collective, unlessAny, notified, joined, changesIn}
-use Rattle.push.specs.Plain.{notAny, plainValues, plainChange, changeSize, changesSize}
+use Rattle.push.specs.Plain.{notAny, plainValues, plainChange}
+use Rattle.push.specs.Measure.{bytes}
 
 -- ---- one change
 
@@ -104,8 +105,8 @@ changesIn-changes (c ∷ cs) h =
     ∙ ap₂ joined (notified-fields c (and-right (fits (fieldsOf c)) (plainValues c) p))
     (changesIn-changes cs (and-right (plainChange c) (allOf plainChange cs) h))
 
-pub length-changesOctets : (cs : List Change) → length (changesOctets cs) ≡ changesSize cs
-unfolding changesOctets changesSize
+pub length-changesOctets : (cs : List Change) → length (changesOctets cs) ≡ bytes cs
+unfolding changesOctets
 length-changesOctets [] = refl
 length-changesOctets (c ∷ cs) =
     length-append (recordOctets (fieldsOf c)) (changesOctets cs)

@@ -1,0 +1,32 @@
+-- What a list of changes is measured by, and against (01, "Demand 3 over whole lists").
+use Prim.Native.Nat.{ℕ, _+_}
+use mathlib.Core.Bool.{Bool, true}
+use mathlib.Core.List.{List, [], _∷_}
+use mathlib.Core.Path.{_≡_}
+use Rattle.zone.specs.Lists.{allOf}
+use Rattle.zone.specs.Record.{Record, Key}
+use Rattle.zone.specs.Store.{find}
+use Rattle.zone.specs.Layout.{size}
+use Rattle.push.specs.Change.{Change, addition, removal, isTrue, appliedAll, fieldsOf}
+
+abbrev pub honest : List Record → Change → Bool
+honest store (addition r) = true
+honest store (removal m) = isTrue store m
+
+-- Whether all removals of a list are true.
+abbrev pub allTrue : List Record → List Change → Bool
+allTrue store cs = allOf (honest store) cs
+
+abbrev pub total : {A : Type 0} → (A → ℕ) → List A → ℕ
+total w [] = 0
+total w (a ∷ l) = w a + total w l
+
+-- "A notice's bytes are its name's + 10 + its RDATA's."
+abbrev pub bytes : List Change → ℕ
+bytes cs = total (λ (c : Change). size (fieldsOf c)) cs
+
+-- "The other lists it is measured against are all lists of adds and these four removals that, applied so, bring the old view
+-- to the new with true removals only."
+pub record Brings (store old new : List Record) (cs : List Change) : Type 0 where
+  pub honest : allTrue store cs ≡ true
+  pub arrives : (k : Key) → find k (appliedAll cs old) ≡ find k new
