@@ -1,40 +1,25 @@
 -- Messages behind their lengths, and PUSH messages: what is written is read back.
-use Prim.Native.Nat.{ℕ, zero, suc, _+_, _-_, _≤_, _<_}
-use mathlib.Core.Path.{_≡_, refl, sym, ap, ap₂, _∙_, subst}
+use Prim.Native.Nat.{ℕ, zero, suc, _+_, _≤_, _<_}
+use mathlib.Core.Path.{_≡_, refl, sym, ap, ap₂, _∙_}
 use mathlib.Core.Bool.{Bool, true, false, cond, _&&_}
 use mathlib.Core.List.{List, [], _∷_, _++_, append-assoc, append-nil}
 use mathlib.Core.Option.{Option, none, some}
 use native.Mathlib.Nat.{le-of-suc-le-suc, not-suc-le-zero}
 use native.Mathlib.Omega.{arith}
-use lib.ListN.{length, take, drop, length-append, length-take, length-drop}
-use lib.Seq.{take-append-seam, drop-append-seam, length-take-le, drop-at}
+use lib.ListN.{length, take, drop, length-append, length-take}
+use lib.Seq.{take-append-seam, drop-at}
 use lib.Dec.{leb, eqb}
+use lib.Pow.{areBytes}
 use borrow.Author.Tests.{leb-true, le-leb, eq-eqb}
 use Rattle.wire.specs.Field.{field, octets}
-use Rattle.wire.proofs.Fields.{field-octets, length-octets}
+use Rattle.wire.proofs.Fields.{field-octets, length-octets, octets-areBytes, areBytes-append}
 use Rattle.zone.specs.Lists.{allOf}
 use Rattle.push.specs.Change.{Change}
 use Rattle.push.specs.Octets.{changesOctets, unidirectional, pushType, pushOctets, pushOf, changesIn}
 use Rattle.push.specs.Measure.{bytes}
 use Rattle.push.specs.Plain.{plainChange}
-use Rattle.push.specs.Frames.{
-  frameOf,
-  oneMore,
-  framesIn,
-  messageId,
-  qr,
-  opcode,
-  countless,
-  headerSize,
-  isUnidirectional,
-  tlvHeaderSize,
-  firstType,
-  firstLength,
-  isPushMessage,
-  oneAtLeast,
-  pushIn,
-}
-use Rattle.push.proofs.ReadBack.{changesIn-changes, length-changesOctets}
+use Rattle.push.specs.Frames.{frameOf, oneMore, framesIn, headerSize, isUnidirectional, tlvHeaderSize, firstLength, isPushMessage, oneAtLeast, pushIn}
+use Rattle.push.proofs.ReadBack.{changesIn-changes, length-changesOctets, changesOctets-areBytes}
 
 -- ---- a message behind its length
 
@@ -197,3 +182,28 @@ framesIn-push c cs rest s =
     let m = pushMessage (changesOctets (c ∷ cs)) in
     ap (λ (l : List ℕ). framesIn 0 (l ++ rest)) (pushOf-cons c cs ∙ pushOctets-framed (c ∷ cs))
     ∙ framesIn-framed m rest (short-message (c ∷ cs) s)
+
+-- The messages of what is sent for a list of changes: one PUSH, or none for an empty list.
+abbrev pub pushMessages : List Change → List (List ℕ)
+pushMessages [] = []
+pushMessages (c ∷ cs) = pushMessage (changesOctets (c ∷ cs)) ∷ []
+
+pub framesIn-pushOf : (cs : List Change) → Sendable cs → framesIn 0 (pushOf cs) ≡ some (pushMessages cs)
+framesIn-pushOf [] s = ap (framesIn 0) pushOf-nil ∙ framesIn-nil
+framesIn-pushOf (c ∷ cs) s =
+    ap (framesIn 0) (sym (append-nil (pushOf (c ∷ cs)))) ∙ framesIn-push c cs [] s
+    ∙ ap (oneMore (pushMessage (changesOctets (c ∷ cs)))) framesIn-nil
+
+-- A reply before them.
+pub framesIn-reply : (m : List ℕ) (cs : List Change) → length m < 65536 → Sendable cs
+    → framesIn 0 (framed m ++ pushOf cs) ≡ some (m ∷ pushMessages cs)
+framesIn-reply m cs h s = framesIn-framed m (pushOf cs) h ∙ ap (oneMore m) (framesIn-pushOf cs s)
+
+pub pushOf-areBytes : (cs : List Change) → allOf plainChange cs ≡ true → areBytes (pushOf cs) ≡ true
+pushOf-areBytes [] h = ap areBytes pushOf-nil
+pushOf-areBytes (c ∷ cs) h =
+    let d = changesOctets (c ∷ cs) in
+    ap areBytes (pushOf-cons c cs ∙ pushOctets-framed (c ∷ cs))
+    ∙ areBytes-append (octets 2 (length (pushMessage d))) (pushMessage d) (octets-areBytes 2 (length (pushMessage d)))
+    (areBytes-append (octets 2 pushType) (octets 2 (length d) ++ d) (octets-areBytes 2 pushType)
+    (areBytes-append (octets 2 (length d)) d (octets-areBytes 2 (length d)) (changesOctets-areBytes (c ∷ cs) h)))

@@ -1,55 +1,26 @@
 -- The changes between views of sound stores: all of them plain, none over 393 octets.
-use Prim.Native.Nat.{ℕ, zero, suc, _+_, _*_, _≤_, _<_}
-use mathlib.Core.Path.{_≡_, refl, sym, ap, ap₂, _∙_}
+use Prim.Native.Nat.{ℕ, _+_, _*_, _≤_, _<_}
+use mathlib.Core.Path.{_≡_, refl, ap, _∙_}
 use mathlib.Core.Bool.{Bool, true, false, cond, not, _&&_}
-use mathlib.Core.List.{List, [], _∷_, _++_, map}
+use mathlib.Core.List.{List, [], _∷_, _++_}
 use native.Mathlib.Omega.{arith}
-use lib.ListN.{length, length-append, length-map}
-use lib.Dec.{leb, ltb, eqb, lit<, lit≤}
+use lib.ListN.{length, length-map}
+use lib.Dec.{leb, eqb, lit<, lit≤}
 use borrow.Author.Tests.{leb-true, le-leb}
-use Rattle.wire.specs.Name.{isName}
-use Rattle.zone.specs.Lists.{keep, anyOf, allOf, onlyIf}
+use Rattle.zone.specs.Lists.{anyOf, allOf}
 use Rattle.zone.specs.Record.{Record, keyOf}
 use Rattle.zone.specs.Store.{find, held}
 use Rattle.zone.specs.Match.{Subscription, any, wanted, view}
 use Rattle.zone.specs.Layout.{size}
-use Rattle.zone.specs.Batch.{maxTtl, removeTtl, maxRdata, maxRecords, isPlain}
-use Rattle.zone.specs.Fits.{fits, maxSize}
+use Rattle.zone.specs.Batch.{maxRdata, maxRecords, isPlain}
+use Rattle.zone.specs.Fits.{maxSize}
 use Rattle.zone.specs.Sound.{good, Sound}
 use Rattle.zone.proofs.Lists.{and-left, and-right, and-both, allOf-append, allOf-map, allOf-keep, allOf-onlyIf, allOf-of-map, length-keep}
 use Rattle.zone.proofs.Layouts.{Fitting, fitting, fits-of}
-use Rattle.zone.proofs.Goods.{Good, good-parts, Allowed, allowed-parts, size-max}
-use Rattle.push.specs.Change.{
-  Removal,
-  single,
-  rrset,
-  allTypes,
-  allClasses,
-  Change,
-  addition,
-  removal,
-  covers,
-  isTrue,
-  collectiveTtl,
-  fieldsOf,
-}
-use Rattle.push.specs.List.{
-  singleAt,
-  rrsetAt,
-  allTypesAt,
-  allClassesAt,
-  widest,
-  alike,
-  chosen,
-  firsts,
-  leaving,
-  hasTtl,
-  entering,
-  removals,
-  additions,
-  changes,
-}
-use Rattle.push.specs.Octets.{changesOctets, pushOctets, pushOf}
+use Rattle.zone.proofs.Goods.{good-parts, Allowed, allowed-parts, size-max}
+use Rattle.push.specs.Change.{Removal, Change, addition, removal, covers, isTrue, collectiveTtl, fieldsOf}
+use Rattle.push.specs.List.{singleAt, rrsetAt, allTypesAt, allClassesAt, widest, alike, chosen, firsts, leaving, hasTtl, entering, removals, additions, changes}
+use Rattle.push.specs.Octets.{pushOctets, pushOf}
 use Rattle.push.specs.Plain.{notAny, plainValues, plainChange, maxPush}
 use Rattle.push.specs.Measure.{bytes}
 use Rattle.push.proofs.Framing.{Sendable, length-pushOctets, pushOf-nil, pushOf-cons}

@@ -2,21 +2,10 @@
 use Prim.Native.Nat.{ℕ, _+_, _*_}
 use mathlib.Core.Bool.{Bool, true, not, _&&_}
 use lib.Dec.{leb, eqb}
-use Rattle.zone.specs.Record.{Record}
 use Rattle.zone.specs.Match.{any}
 use Rattle.zone.specs.Batch.{maxTtl, maxRecords}
 use Rattle.zone.specs.Fits.{fits, maxSize}
-use Rattle.push.specs.Change.{
-  Removal,
-  single,
-  rrset,
-  allTypes,
-  allClasses,
-  Change,
-  addition,
-  removal,
-  fieldsOf,
-}
+use Rattle.push.specs.Change.{single, rrset, allTypes, allClasses, Change, addition, removal, fieldsOf}
 
 abbrev pub notAny : ℕ → Bool
 notAny x = not (eqb x any)

@@ -1,5 +1,5 @@
 -- Laws of batches: stepping one, what its edits are, and that a sound store stays sound.
-use Prim.Native.Nat.{ℕ, zero, suc, _+_, _≤_, _<_}
+use Prim.Native.Nat.{ℕ, zero, suc, _≤_, _<_}
 use mathlib.Core.Path.{_≡_, refl, sym, ap, ap₂, _∙_, subst}
 use mathlib.Core.Bool.{Bool, true, false, cond, not, _&&_, _||_}
 use mathlib.Core.List.{List, [], _∷_, _++_, map}
@@ -10,34 +10,19 @@ use lib.Dec.{leb, eqb}
 use lib.Pow.{areBytes}
 use borrow.Author.Tests.{leb-true, leb-false, le-leb}
 use Rattle.wire.proofs.Fields.{areBytes-drop}
-use Rattle.zone.specs.Lists.{keep, allOf}
+use Rattle.zone.specs.Lists.{allOf}
 use Rattle.zone.specs.Record.{Record, Key, keyOf, sameKey}
 use Rattle.zone.specs.Store.{held, withTtl, setIf, put, remove}
 use Rattle.zone.specs.Layout.{size, readRecord}
-use Rattle.zone.specs.Batch.{
-  maxRecords,
-  maxEdits,
-  maxTtl,
-  removeTtl,
-  isPut,
-  isPlain,
-  allowed,
-  overfull,
-  edit,
-  Edited,
-  stored,
-  faulty,
-  edited,
-  batchOf,
-}
+use Rattle.zone.specs.Batch.{maxRecords, maxEdits, maxTtl, removeTtl, isPut, allowed, overfull, edit, Edited, stored, faulty, edited, batchOf}
 use Rattle.zone.specs.declared.BatchFault.{BatchFault}
 use Rattle.zone.specs.declared.BatchFault.the-variants.{TooManyEdits, Unreadable, BadValue, StoreFull}
 use Rattle.zone.specs.Fits.{fits}
 use Rattle.zone.specs.Sound.{distinct, good, Sound}
 use Rattle.zone.proofs.Lists.{and-left, and-right, and-both, allOf-append, allOf-map, allOf-keep, allOf-of-map, length-keep}
 use Rattle.zone.proofs.Stores.{distinct-put, distinct-remove, length-put}
-use Rattle.zone.proofs.Layouts.{Fitting, fitting, fits-of, size-le, size-pos, readRecord-fits}
-use Rattle.zone.proofs.Goods.{Good, good-parts, good-of, Allowed, allowed-parts, allowed-of}
+use Rattle.zone.proofs.Layouts.{fitting, fits-of, size-le, size-pos, readRecord-fits}
+use Rattle.zone.proofs.Goods.{good-parts, good-of, allowed-parts, allowed-of}
 
 -- ---- stepping a batch
 

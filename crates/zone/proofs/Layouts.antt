@@ -1,19 +1,19 @@
 -- Laws of a record's layout: what is written is read back, what is read is what stands there.
-use Prim.Native.Nat.{ℕ, zero, suc, _+_, _^_, _≤_, _<_}
+use Prim.Native.Nat.{ℕ, _+_, _≤_, _<_}
 use mathlib.Core.Path.{_≡_, refl, sym, ap, _∙_, subst}
-use mathlib.Core.Bool.{Bool, true, false, cond, _&&_}
-use mathlib.Core.List.{List, [], _∷_, _++_, append-assoc}
+use mathlib.Core.Bool.{Bool, true, false}
+use mathlib.Core.List.{List, _++_, append-assoc}
 use mathlib.Core.Option.{Option, none, some}
 use native.Mathlib.Omega.{arith}
-use lib.ListN.{length, take, drop, length-append, length-take, length-drop, take-append-drop}
+use lib.ListN.{length, take, drop, length-append, length-drop}
 use lib.Seq.{take-append-seam, drop-append-seam, length-take-le, take-add, drop-drop}
-use lib.Dec.{leb, ltb, lit≤}
+use lib.Dec.{leb, lit≤}
 use lib.Pow.{areBytes}
 use borrow.Author.Tests.{leb-true, leb-false, le-leb, lt-leb, ltb-true, lt-ltb}
 use Rattle.wire.specs.Field.{field, octets}
 use Rattle.wire.specs.Name.{nameLength, isName}
-use Rattle.wire.proofs.Fields.{length-octets, octets-areBytes, field-octets, field-lt, octets-field, areBytes-append, areBytes-take, areBytes-drop}
-use Rattle.wire.proofs.Names.{nameLength-append, nameLength-le, isName-take, isName-pos, isName-max}
+use Rattle.wire.proofs.Fields.{octets-areBytes, field-octets, field-lt, octets-field, areBytes-append, areBytes-take, areBytes-drop}
+use Rattle.wire.proofs.Names.{nameLength-append, nameLength-le, isName-take}
 use Rattle.zone.specs.Record.{Record}
 use Rattle.zone.specs.Layout.{fixedSize, size, recordOctets, readAfter, readRecord}
 use Rattle.zone.specs.Fits.{fits}
