@@ -1,6 +1,12 @@
 -- Laws of change notifications.
 pub mod Effects
 pub mod Covers
+pub mod Chosen
+pub mod Pigeonhole
+pub mod Firsts
+pub mod Arrive
+pub mod Subscribing
+pub mod Sizes
 pub mod ReadBack
 pub mod Framing
 pub mod Plains

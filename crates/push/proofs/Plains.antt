@@ -2,12 +2,12 @@
 use Prim.Native.Nat.{ℕ, _+_, _*_, _≤_, _<_}
 use mathlib.Core.Path.{_≡_, refl, ap, _∙_}
 use mathlib.Core.Bool.{Bool, true, false, cond, not, _&&_}
-use mathlib.Core.List.{List, [], _∷_, _++_}
+use mathlib.Core.List.{List, [], _∷_}
 use native.Mathlib.Omega.{arith}
 use lib.ListN.{length, length-map}
 use lib.Dec.{leb, eqb, lit<, lit≤}
 use borrow.Author.Tests.{leb-true, le-leb}
-use Rattle.zone.specs.Lists.{anyOf, allOf}
+use Rattle.zone.specs.Lists.{allOf}
 use Rattle.zone.specs.Record.{Record, keyOf}
 use Rattle.zone.specs.Store.{find, held}
 use Rattle.zone.specs.Match.{Subscription, any, wanted, view}
@@ -15,14 +15,15 @@ use Rattle.zone.specs.Layout.{size}
 use Rattle.zone.specs.Batch.{maxRdata, maxRecords, isPlain}
 use Rattle.zone.specs.Fits.{maxSize}
 use Rattle.zone.specs.Sound.{good, Sound}
-use Rattle.zone.proofs.Lists.{and-left, and-right, and-both, allOf-append, allOf-map, allOf-keep, allOf-onlyIf, allOf-of-map, length-keep}
+use Rattle.zone.proofs.Lists.{and-left, and-right, and-both, allOf-append, allOf-map, allOf-keep, allOf-of-map, length-keep}
 use Rattle.zone.proofs.Layouts.{Fitting, fitting, fits-of}
 use Rattle.zone.proofs.Goods.{good-parts, Allowed, allowed-parts, size-max}
-use Rattle.push.specs.Change.{Removal, Change, addition, removal, covers, isTrue, collectiveTtl, fieldsOf}
+use Rattle.push.specs.Change.{Removal, Change, addition, removal, isTrue, collectiveTtl, fieldsOf}
 use Rattle.push.specs.List.{singleAt, rrsetAt, allTypesAt, allClassesAt, widest, alike, chosen, firsts, leaving, hasTtl, entering, removals, additions, changes}
 use Rattle.push.specs.Octets.{pushOctets, pushOf}
 use Rattle.push.specs.Plain.{notAny, plainValues, plainChange, maxPush}
 use Rattle.push.specs.Measure.{bytes}
+use Rattle.push.proofs.Firsts.{allOf-firsts}
 use Rattle.push.proofs.Framing.{Sendable, length-pushOctets, pushOf-nil, pushOf-cons}
 
 -- ---- what holds of every change at a record
@@ -48,13 +49,6 @@ chosen-cases P store gone r a b c d =
     pick true false false = d
     pick false t u = a
 
-firsts-all : (p : Record → Bool) (choose : Record → Removal) (earlier l : List Record) → allOf p l ≡ true → allOf p (firsts choose earlier l) ≡ true
-unfolding firsts
-firsts-all p choose earlier [] h = h
-firsts-all p choose earlier (r ∷ l) h =
-    allOf-onlyIf p (not (anyOf (λ (e : Record). covers (choose e) (keyOf r)) earlier)) r (firsts choose (earlier ++ (r ∷ [])) l) (λ e. and-left (p r) (allOf p l) h)
-    (firsts-all p choose (earlier ++ (r ∷ [])) l (and-right (p r) (allOf p l) h))
-
 module _ (p : Record → Bool) (q : Change → Bool) (each : AtEach p q) where
   pub removals-all : (store gone : List Record) → allOf p gone ≡ true → allOf q (removals store gone) ≡ true
   unfolding removals
@@ -63,7 +57,7 @@ module _ (p : Record → Bool) (q : Change → Bool) (each : AtEach p q) where
       let l = firsts (chosen store gone) [] gone in
       allOf-of-map f q l
       ∙ allOf-map p (λ r. q (f r)) l (λ r e. chosen-cases (λ m. q (removal m) ≡ true) store gone r (each .one r e) (each .set r e) (each .types r e) (each .classes r e))
-      (firsts-all p (chosen store gone) [] gone h)
+      (allOf-firsts (chosen store gone) p [] gone h)
 
   pub additions-all : (l : List Record) → allOf p l ≡ true → allOf q (additions l) ≡ true
   unfolding additions

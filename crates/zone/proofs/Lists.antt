@@ -110,6 +110,11 @@ module _ {A : Type 0} where
       absorbed true t f h = refl
       absorbed false t f h = f h
 
+  pub anyOf-never : (p q : A → Bool) (l : List A) → allOf p l ≡ true → ((a : A) → p a ≡ true → q a ≡ false) → anyOf q l ≡ false
+  anyOf-never p q [] e f = refl
+  anyOf-never p q (a ∷ l) e f =
+      rw (f a (and-left (p a) (allOf p l) e)) (anyOf-never p q l (and-right (p a) (allOf p l) e) f)
+
   pub allOf-at : (p : A → Bool) (l : List A) {a : A} → allOf p l ≡ true → List·Memᴰ a l → p a ≡ true
   allOf-at p (b ∷ l) e (List·Memᴰ·head q) = ap p q ∙ and-left (p b) (allOf p l) e
   allOf-at p (b ∷ l) e (List·Memᴰ·tail m) = allOf-at p l (and-right (p b) (allOf p l) e) m
