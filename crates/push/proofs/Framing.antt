@@ -6,19 +6,20 @@ use mathlib.Core.List.{List, [], _∷_, _++_, append-assoc, append-nil}
 use mathlib.Core.Option.{Option, none, some}
 use native.Mathlib.Nat.{le-of-suc-le-suc, not-suc-le-zero}
 use native.Mathlib.Omega.{arith}
-use lib.ListN.{length, take, drop, length-append, length-take}
+use lib.ListN.{length, getD, take, drop, length-append, length-take}
 use lib.Seq.{take-append-seam, drop-at}
 use lib.Dec.{leb, eqb}
 use lib.Pow.{areBytes}
-use borrow.Author.Tests.{leb-true, le-leb, eq-eqb}
+use borrow.Author.Tests.{leb-true, le-leb, eq-eqb, eqb-true}
 use Rattle.wire.specs.Field.{field, octets}
 use Rattle.wire.proofs.Fields.{field-octets, length-octets, octets-areBytes, areBytes-append}
 use Rattle.zone.specs.Lists.{allOf}
+use Rattle.zone.proofs.Lists.{and-left, and-right, never}
 use Rattle.push.specs.Change.{Change}
 use Rattle.push.specs.Octets.{changesOctets, unidirectional, pushType, pushOctets, pushOf, changesIn}
 use Rattle.push.specs.Measure.{bytes}
 use Rattle.push.specs.Plain.{plainChange}
-use Rattle.push.specs.Frames.{frameOf, oneMore, framesIn, headerSize, isUnidirectional, tlvHeaderSize, firstLength, isPushMessage, oneAtLeast, pushIn}
+use Rattle.push.specs.Frames.{qr, frameOf, oneMore, framesIn, headerSize, isUnidirectional, tlvHeaderSize, firstLength, isPushMessage, oneAtLeast, pushIn}
 use Rattle.push.proofs.ReadBack.{changesIn-changes, length-changesOctets, changesOctets-areBytes}
 
 -- ---- a message behind its length
@@ -40,7 +41,8 @@ frameOf-framed m rest h =
     let l = octets 2 (length m) ++ (m ++ rest) in
     let n : field 2 l ≡ length m = field-octets 2 (length m) (m ++ rest) h in
     let d : drop 2 l ≡ m ++ rest = drop-at (octets 2 (length m)) (m ++ rest) 2 (length-octets 2 (length m)) in
-    let e : length l ≡ 2 + length (m ++ rest) = length-append (octets 2 (length m)) (m ++ rest) ∙ ap (λ (k : ℕ). k + length (m ++ rest)) (length-octets 2 (length m)) in
+    let e : length l ≡ 2 + length (m ++ rest) =
+    length-append (octets 2 (length m)) (m ++ rest) ∙ ap (λ (k : ℕ). k + length (m ++ rest)) (length-octets 2 (length m)) in
     let t : leb (2 + field 2 l) (length l) ≡ true = le-leb (2 + field 2 l) (length l) (omega (arith, n, e, length-append m rest)) in
     ap frameOf (framed-rest m rest)
     ∙ ap (λ (b : Bool). cond b (some (take (field 2 l) (drop 2 l))) none) t
@@ -81,7 +83,8 @@ pub framesIn-read : (l m : List ℕ) → frameOf l ≡ some m → framesIn 0 l �
 framesIn-read [] m h = absurd (omega (arith, frameOf-le [] m h))
 framesIn-read (b ∷ l) m h =
     let e : 2 + length m ≡ suc (suc (length m)) = omega arith in
-    let s : framesIn (suc (length m)) l ≡ framesIn 0 (drop (suc (length m)) l) = framesIn-drop (suc (length m)) l (omega (arith, frameOf-le (b ∷ l) m h)) in
+    let s : framesIn (suc (length m)) l ≡ framesIn 0 (drop (suc (length m)) l) =
+    framesIn-drop (suc (length m)) l (omega (arith, frameOf-le (b ∷ l) m h)) in
     front b l m h ∙ rw e (ap (oneMore m) s)
 
 -- A message in front of others.
@@ -122,6 +125,15 @@ pushIn-message d h =
     eq-eqb (headerSize + tlvHeaderSize + firstLength m) (length m) (omega (arith, first-length d h, length-pushMessage d)) in
     ap₂ (λ (s t : Bool). cond (s && t) (oneAtLeast (changesIn 0 (drop (headerSize + tlvHeaderSize) m))) none) (pushMessage-isPush d) e
     ∙ ap (λ (q : List ℕ). oneAtLeast (changesIn 0 q)) (pushMessage-data d)
+
+-- What isn't a PUSH holds no changes; a response isn't one.
+pub not-push : (m : List ℕ) → isPushMessage m ≡ false → pushIn m ≡ none
+unfolding pushIn
+not-push m h = rw h
+
+pub response-not-push : (m : List ℕ) → 128 ≤ getD m 2 0 → isPushMessage m ≡ false
+unfolding isUnidirectional
+response-not-push m h = never (isPushMessage m) (λ e. omega (arith, eqb-true (qr m) 0 (search (and-left, and-right))))
 
 -- ---- the PUSH of a list of changes
 

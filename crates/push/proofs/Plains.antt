@@ -5,19 +5,19 @@ use mathlib.Core.Bool.{Bool, true, false, cond, not, _&&_}
 use mathlib.Core.List.{List, [], _∷_}
 use native.Mathlib.Omega.{arith}
 use lib.ListN.{length, length-map}
-use lib.Dec.{leb, eqb, lit<, lit≤}
+use lib.Dec.{leb, lit<, lit≤}
 use borrow.Author.Tests.{leb-true, le-leb}
 use Rattle.zone.specs.Lists.{allOf}
 use Rattle.zone.specs.Record.{Record, keyOf}
 use Rattle.zone.specs.Store.{find, held}
 use Rattle.zone.specs.Match.{Subscription, any, wanted, view}
 use Rattle.zone.specs.Layout.{size}
-use Rattle.zone.specs.Batch.{maxRdata, maxRecords, isPlain}
+use Rattle.zone.specs.Batch.{maxRdata, maxRecords}
 use Rattle.zone.specs.Fits.{maxSize}
 use Rattle.zone.specs.Sound.{good, Sound}
 use Rattle.zone.proofs.Lists.{and-left, and-right, and-both, allOf-append, allOf-map, allOf-keep, allOf-of-map, length-keep}
 use Rattle.zone.proofs.Layouts.{Fitting, fitting, fits-of}
-use Rattle.zone.proofs.Goods.{good-parts, Allowed, allowed-parts, size-max}
+use Rattle.zone.proofs.Goods.{good-parts, Allowed, allowed-parts, plain-not-any, size-max}
 use Rattle.push.specs.Change.{Removal, Change, addition, removal, isTrue, collectiveTtl, fieldsOf}
 use Rattle.push.specs.List.{singleAt, rrsetAt, allTypesAt, allClassesAt, widest, alike, chosen, firsts, leaving, hasTtl, entering, removals, additions, changes}
 use Rattle.push.specs.Octets.{pushOctets, pushOf}
@@ -56,7 +56,8 @@ module _ (p : Record → Bool) (q : Change → Bool) (each : AtEach p q) where
       let f : Record → Change = λ r. removal (chosen store gone r) in
       let l = firsts (chosen store gone) [] gone in
       allOf-of-map f q l
-      ∙ allOf-map p (λ r. q (f r)) l (λ r e. chosen-cases (λ m. q (removal m) ≡ true) store gone r (each .one r e) (each .set r e) (each .types r e) (each .classes r e))
+      ∙ allOf-map p (λ r. q (f r)) l (λ r e. chosen-cases (λ m. q (removal m) ≡ true) store gone r
+      (each .one r e) (each .set r e) (each .types r e) (each .classes r e))
       (allOf-firsts (chosen store gone) p [] gone h)
 
   pub additions-all : (l : List Record) → allOf p l ≡ true → allOf q (additions l) ≡ true
@@ -79,9 +80,6 @@ plain-short : (c : Change) → Fitting (fieldsOf c) → plainValues c ≡ true �
 unfolding plainChange
 plain-short c f v d =
     and-both (and-both (fits-of (fieldsOf c) f) v) (le-leb (size (fieldsOf c)) maxSize (size-max (fieldsOf c) (f .name) d))
-
-plain-not-any : (x : ℕ) → isPlain x ≡ true → notAny x ≡ true
-plain-not-any x p = and-right (not (eqb x 0)) (notAny x) p
 
 module _ (zone : List ℕ) (r : Record) (h : good zone r ≡ true) where
   whole : Fitting r
@@ -158,7 +156,9 @@ plain-at zone = record {
 pub bytes-le : (cs : List Change) → allOf plainShort cs ≡ true → bytes cs ≤ maxSize * length cs
 bytes-le [] h = lit≤ tt
 bytes-le (c ∷ cs) h =
-    let k : size (fieldsOf c) ≤ maxSize = leb-true (size (fieldsOf c)) maxSize (and-right (plainChange c) (leb (size (fieldsOf c)) maxSize) (and-left (plainShort c) (allOf plainShort cs) h)) in
+    let k : size (fieldsOf c) ≤ maxSize =
+    leb-true (size (fieldsOf c)) maxSize
+    (and-right (plainChange c) (leb (size (fieldsOf c)) maxSize) (and-left (plainShort c) (allOf plainShort cs) h)) in
     omega (arith, k, bytes-le cs (and-right (plainShort c) (allOf plainShort cs) h))
 
 pub all-plain : (cs : List Change) → allOf plainShort cs ≡ true → allOf plainChange cs ≡ true

@@ -98,7 +98,8 @@ never f s e = let z : _≡_ {A = ℕ} 0 1 = cc in absurd (omega arith)
 same : {s t : List Record} → stored s ≡ stored t → s ≡ t
 same e = cc
 
-pub editing : (zone : List ℕ) (n : ℕ) (l : List ℕ) (store after : List Record) → edited n zone l store ≡ stored after → Editing zone n l store after
+pub editing : (zone : List ℕ) (n : ℕ) (l : List ℕ) (store after : List Record) → edited n zone l store ≡ stored after
+    → Editing zone n l store after
 editing zone zero [] store after h = subst (Editing zone zero [] store) (same (sym (edited-end zero zone store) ∙ h)) done
 editing zone (suc n) [] store after h = subst (Editing zone (suc n) [] store) (same (sym (edited-end (suc n) zone store) ∙ h)) done
 editing zone zero (b ∷ l) store after h = never TooManyEdits after (sym (edited-more zone (b ∷ l) store (omega arith)) ∙ h)
@@ -112,7 +113,8 @@ editing zone (suc n) (b ∷ l) store after h = go (λ m s. editing zone n m s af
     full ih r e a true f = never StoreFull after (sym (edited-full n zone (b ∷ l) store r e a f) ∙ h)
     full ih r e a false f = next r e a f (ih (drop (size r) (b ∷ l)) (edit store r) (sym (edited-step n zone (b ∷ l) store r e a f) ∙ h))
 
-    value : Rest → (r : Record) → readRecord (b ∷ l) ≡ some r → (t : Bool) → allowed zone r ≡ t → Editing zone (suc n) (b ∷ l) store after
+    value : Rest → (r : Record) → readRecord (b ∷ l) ≡ some r → (t : Bool) → allowed zone r ≡ t
+        → Editing zone (suc n) (b ∷ l) store after
     value ih r e true a = full ih r e a (overfull store r) refl
     value ih r e false a = never BadValue after (sym (edited-bad n zone (b ∷ l) store r e a) ∙ h)
 
@@ -201,7 +203,8 @@ module _ (zone : List ℕ) (store : List Record) (s : Sound zone store) where
   unfolding overfull
   room r p f = go (held (keyOf r) store) refl (length-put r store)
     where
-      go : (b : Bool) → held (keyOf r) store ≡ b → length (put r store) ≡ cond b (length store) (suc (length store)) → length (put r store) ≤ maxRecords
+      go : (b : Bool) → held (keyOf r) store ≡ b → length (put r store) ≡ cond b (length store) (suc (length store))
+          → length (put r store) ≤ maxRecords
       go true e l = omega (arith, s .few)
       go false e l =
           let q : leb maxRecords (length store) ≡ false =
