@@ -179,6 +179,6 @@ module _ (store old new : List Record) (b : Between store old new) where
   arrives client x = record {
     once = distinct-appliedAll (changes store old new) client (x .once);
     same = λ k. find-appliedAll k (changes store old new) client
-    ∙ ap (acts k (changes store old new)) (x .same k)
-    ∙ arrives-at k;
+        ∙ ap (acts k (changes store old new)) (x .same k)
+        ∙ arrives-at k;
   }

@@ -161,22 +161,22 @@ chosenAt store gone r = go (isTrue store (at 2 r)) refl (alike gone (at 2 r) v) 
     go true a true f c g = record { index = 2; is = rw (a, f); within = w .least 2 a; same = f }
     go true a false f true g =
         record {
-      index = 1;
-      is = rw (a, f, g);
-      within = let h = w .least 2 a in let z : i ≢ 2 = other 2 f in omega arith;
-      same = g;
-    }
+          index = 1;
+          is = rw (a, f, g);
+          within = let h = w .least 2 a in let z : i ≢ 2 = other 2 f in omega arith;
+          same = g;
+        }
     go true a false f false g =
         let h : i ≤ 2 = w .least 2 a in
         let y : i ≢ 2 = other 2 f in
         let z : i ≢ 1 = other 1 g in
         let q : i ≡ 0 = omega arith in
         record {
-      index = 0;
-      is = rw (a, f, g);
-      within = omega arith;
-      same = rw (w .is, q) (alike-refl gone (at 0 r));
-    }
+          index = 0;
+          is = rw (a, f, g);
+          within = omega arith;
+          same = rw (w .is, q) (alike-refl gone (at 0 r));
+        }
     go false a b f c g =
         let q : i ≡ 3 = single (narrow-or-single i (w .small)) in
         record { index = 3; is = rw a; within = w .small; same = rw (w .is, q) (alike-refl gone (at 3 r)) }

@@ -52,12 +52,14 @@ covers-at (rrset o t c) r k e =
     rw (
       sameOctets-true (lowered o) (lowered (r .owner)) (and-left x y xy),
       eqb-true t (r .rrtype) (and-right x y xy),
-      eqb-true c (r .rrclass) (and-right (x && y) (eqb c (r .rrclass)) e))
+      eqb-true c (r .rrclass) (and-right (x && y) (eqb c (r .rrclass)) e),
+    )
 covers-at (allTypes o c) r k e =
     let x : Bool = sameOctets (lowered o) (lowered (r .owner)) in
     rw (
       sameOctets-true (lowered o) (lowered (r .owner)) (and-left x (eqb c (r .rrclass)) e),
-      eqb-true c (r .rrclass) (and-right x (eqb c (r .rrclass)) e))
+      eqb-true c (r .rrclass) (and-right x (eqb c (r .rrclass)) e),
+    )
 covers-at (allClasses o) r k e = rw (sameOctets-true (lowered o) (lowered (r .owner)) e)
 
 -- A narrower one covers no more.

@@ -1,39 +1,26 @@
 -- Messages behind their lengths, and PUSH messages: what is written is read back.
-use Prim.Native.Nat.{ℕ, zero, suc, _+_, _-_, _≤_, _<_}
-use mathlib.Core.Path.{_≡_, refl, sym, ap, ap₂, _∙_, subst}
+use Prim.Native.Nat.{ℕ, zero, suc, _+_, _≤_, _<_}
+use mathlib.Core.Path.{_≡_, refl, sym, ap, ap₂, _∙_}
 use mathlib.Core.Bool.{Bool, true, false, cond, _&&_}
 use mathlib.Core.List.{List, [], _∷_, _++_, append-assoc, append-nil}
 use mathlib.Core.Option.{Option, none, some}
 use native.Mathlib.Nat.{le-of-suc-le-suc, not-suc-le-zero}
 use native.Mathlib.Omega.{arith}
-use lib.ListN.{length, take, drop, length-append, length-take, length-drop}
-use lib.Seq.{take-append-seam, drop-append-seam, length-take-le, drop-at}
+use lib.ListN.{length, getD, take, drop, length-append, length-take}
+use lib.Seq.{take-append-seam, drop-at}
 use lib.Dec.{leb, eqb}
-use borrow.Author.Tests.{leb-true, le-leb, eq-eqb}
+use lib.Pow.{areBytes}
+use borrow.Author.Tests.{leb-true, le-leb, eq-eqb, eqb-true}
 use Rattle.wire.specs.Field.{field, octets}
-use Rattle.wire.proofs.Fields.{field-octets, length-octets}
+use Rattle.wire.proofs.Fields.{field-octets, length-octets, octets-areBytes, areBytes-append}
 use Rattle.zone.specs.Lists.{allOf}
+use Rattle.zone.proofs.Lists.{and-left, and-right, never}
 use Rattle.push.specs.Change.{Change}
 use Rattle.push.specs.Octets.{changesOctets, unidirectional, pushType, pushOctets, pushOf, changesIn}
-use Rattle.push.specs.Plain.{plainChange, changesSize}
-use Rattle.push.specs.Frames.{
-  frameOf,
-  oneMore,
-  framesIn,
-  messageId,
-  qr,
-  opcode,
-  countless,
-  headerSize,
-  isUnidirectional,
-  tlvHeaderSize,
-  firstType,
-  firstLength,
-  isPushMessage,
-  oneAtLeast,
-  pushIn,
-}
-use Rattle.push.proofs.ReadBack.{changesIn-changes, length-changesOctets}
+use Rattle.push.specs.Measure.{bytes}
+use Rattle.push.specs.Plain.{plainChange}
+use Rattle.push.specs.Frames.{qr, frameOf, oneMore, framesIn, headerSize, isUnidirectional, tlvHeaderSize, firstLength, isPushMessage, oneAtLeast, pushIn}
+use Rattle.push.proofs.ReadBack.{changesIn-changes, length-changesOctets, changesOctets-areBytes}
 
 -- ---- a message behind its length
 
@@ -54,7 +41,8 @@ frameOf-framed m rest h =
     let l = octets 2 (length m) ++ (m ++ rest) in
     let n : field 2 l ≡ length m = field-octets 2 (length m) (m ++ rest) h in
     let d : drop 2 l ≡ m ++ rest = drop-at (octets 2 (length m)) (m ++ rest) 2 (length-octets 2 (length m)) in
-    let e : length l ≡ 2 + length (m ++ rest) = length-append (octets 2 (length m)) (m ++ rest) ∙ ap (λ (k : ℕ). k + length (m ++ rest)) (length-octets 2 (length m)) in
+    let e : length l ≡ 2 + length (m ++ rest) =
+    length-append (octets 2 (length m)) (m ++ rest) ∙ ap (λ (k : ℕ). k + length (m ++ rest)) (length-octets 2 (length m)) in
     let t : leb (2 + field 2 l) (length l) ≡ true = le-leb (2 + field 2 l) (length l) (omega (arith, n, e, length-append m rest)) in
     ap frameOf (framed-rest m rest)
     ∙ ap (λ (b : Bool). cond b (some (take (field 2 l) (drop 2 l))) none) t
@@ -95,7 +83,8 @@ pub framesIn-read : (l m : List ℕ) → frameOf l ≡ some m → framesIn 0 l �
 framesIn-read [] m h = absurd (omega (arith, frameOf-le [] m h))
 framesIn-read (b ∷ l) m h =
     let e : 2 + length m ≡ suc (suc (length m)) = omega arith in
-    let s : framesIn (suc (length m)) l ≡ framesIn 0 (drop (suc (length m)) l) = framesIn-drop (suc (length m)) l (omega (arith, frameOf-le (b ∷ l) m h)) in
+    let s : framesIn (suc (length m)) l ≡ framesIn 0 (drop (suc (length m)) l) =
+    framesIn-drop (suc (length m)) l (omega (arith, frameOf-le (b ∷ l) m h)) in
     front b l m h ∙ rw e (ap (oneMore m) s)
 
 -- A message in front of others.
@@ -137,6 +126,15 @@ pushIn-message d h =
     ap₂ (λ (s t : Bool). cond (s && t) (oneAtLeast (changesIn 0 (drop (headerSize + tlvHeaderSize) m))) none) (pushMessage-isPush d) e
     ∙ ap (λ (q : List ℕ). oneAtLeast (changesIn 0 q)) (pushMessage-data d)
 
+-- What isn't a PUSH holds no changes; a response isn't one.
+pub not-push : (m : List ℕ) → isPushMessage m ≡ false → pushIn m ≡ none
+unfolding pushIn
+not-push m h = rw h
+
+pub response-not-push : (m : List ℕ) → 128 ≤ getD m 2 0 → isPushMessage m ≡ false
+unfolding isUnidirectional
+response-not-push m h = never (isPushMessage m) (λ e. omega (arith, eqb-true (qr m) 0 (search (and-left, and-right))))
+
 -- ---- the PUSH of a list of changes
 
 pub pushOctets-framed : (cs : List Change) → pushOctets cs ≡ framed (pushMessage (changesOctets cs))
@@ -144,7 +142,7 @@ unfolding pushOctets
 pushOctets-framed cs =
     ap (λ (n : ℕ). octets 2 n ++ pushMessage (changesOctets cs)) (sym (length-pushMessage (changesOctets cs)))
 
-pub length-pushOctets : (cs : List Change) → length (pushOctets cs) ≡ 18 + changesSize cs
+pub length-pushOctets : (cs : List Change) → length (pushOctets cs) ≡ 18 + bytes cs
 length-pushOctets cs =
     ap length (pushOctets-framed cs)
     ∙ omega (arith, length-framed (pushMessage (changesOctets cs)), length-pushMessage (changesOctets cs), length-changesOctets cs)
@@ -152,7 +150,7 @@ length-pushOctets cs =
 -- A list of changes whose PUSH has a length: with the 16 octets before them they take at most 65,535.
 pub record Sendable (cs : List Change) : Type 0 where
   pub plain : allOf plainChange cs ≡ true
-  pub short : 16 + changesSize cs ≤ 65535
+  pub short : 16 + bytes cs ≤ 65535
 
 short-message : (cs : List Change) → Sendable cs → length (pushMessage (changesOctets cs)) < 65536
 short-message cs s = omega (arith, s .short, length-pushMessage (changesOctets cs), length-changesOctets cs)
@@ -196,3 +194,28 @@ framesIn-push c cs rest s =
     let m = pushMessage (changesOctets (c ∷ cs)) in
     ap (λ (l : List ℕ). framesIn 0 (l ++ rest)) (pushOf-cons c cs ∙ pushOctets-framed (c ∷ cs))
     ∙ framesIn-framed m rest (short-message (c ∷ cs) s)
+
+-- The messages of what is sent for a list of changes: one PUSH, or none for an empty list.
+abbrev pub pushMessages : List Change → List (List ℕ)
+pushMessages [] = []
+pushMessages (c ∷ cs) = pushMessage (changesOctets (c ∷ cs)) ∷ []
+
+pub framesIn-pushOf : (cs : List Change) → Sendable cs → framesIn 0 (pushOf cs) ≡ some (pushMessages cs)
+framesIn-pushOf [] s = ap (framesIn 0) pushOf-nil ∙ framesIn-nil
+framesIn-pushOf (c ∷ cs) s =
+    ap (framesIn 0) (sym (append-nil (pushOf (c ∷ cs)))) ∙ framesIn-push c cs [] s
+    ∙ ap (oneMore (pushMessage (changesOctets (c ∷ cs)))) framesIn-nil
+
+-- A reply before them.
+pub framesIn-reply : (m : List ℕ) (cs : List Change) → length m < 65536 → Sendable cs
+    → framesIn 0 (framed m ++ pushOf cs) ≡ some (m ∷ pushMessages cs)
+framesIn-reply m cs h s = framesIn-framed m (pushOf cs) h ∙ ap (oneMore m) (framesIn-pushOf cs s)
+
+pub pushOf-areBytes : (cs : List Change) → allOf plainChange cs ≡ true → areBytes (pushOf cs) ≡ true
+pushOf-areBytes [] h = ap areBytes pushOf-nil
+pushOf-areBytes (c ∷ cs) h =
+    let d = changesOctets (c ∷ cs) in
+    ap areBytes (pushOf-cons c cs ∙ pushOctets-framed (c ∷ cs))
+    ∙ areBytes-append (octets 2 (length (pushMessage d))) (pushMessage d) (octets-areBytes 2 (length (pushMessage d)))
+    (areBytes-append (octets 2 pushType) (octets 2 (length d) ++ d) (octets-areBytes 2 pushType)
+    (areBytes-append (octets 2 (length d)) d (octets-areBytes 2 (length d)) (changesOctets-areBytes (c ∷ cs) h)))

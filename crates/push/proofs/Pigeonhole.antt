@@ -75,23 +75,23 @@ module _ {A : Type 0} where
 module _ {A B : Type 0} (serves : B → A → Bool) (meet : B → B → Bool) (x : B → ℕ) (w : A → ℕ)
     (weighs : (b : B) (a : A) → serves b a ≡ true → x b ≤ w a)
     (meets : (b c : B) (a : A) → serves b a ≡ true → serves c a ≡ true → meet b c ≡ true)
-    where
-  pub pigeonhole : (bs : List B) (l : List A) → apart meet bs ≡ true → allOf (λ (b : B). anyOf (serves b) l) bs ≡ true
-      → total x bs ≤ total w l
-  pigeonhole [] l d e = omega arith
-  pigeonhole (b ∷ bs) l d e =
-      let here : anyOf (serves b) l ≡ true = and-left (anyOf (serves b) l) (allOf (λ (b : B). anyOf (serves b) l) bs) e in
-      let later : allOf (λ (b : B). anyOf (serves b) l) bs ≡ true = and-right (anyOf (serves b) l) (allOf (λ (b : B). anyOf (serves b) l) bs) e in
-      let off : allOf (λ (c : B). not (meet b c)) bs ≡ true = and-left (allOf (λ (c : B). not (meet b c)) bs) (apart meet bs) d in
-      let h = without-weight (serves b) w (x b) l (weighs b) here in
-      let k =
+  where
+    pub pigeonhole : (bs : List B) (l : List A) → apart meet bs ≡ true → allOf (λ (b : B). anyOf (serves b) l) bs ≡ true
+        → total x bs ≤ total w l
+    pigeonhole [] l d e = omega arith
+    pigeonhole (b ∷ bs) l d e =
+        let here : anyOf (serves b) l ≡ true = and-left (anyOf (serves b) l) (allOf (λ (b : B). anyOf (serves b) l) bs) e in
+        let later : allOf (λ (b : B). anyOf (serves b) l) bs ≡ true = and-right (anyOf (serves b) l) (allOf (λ (b : B). anyOf (serves b) l) bs) e in
+        let off : allOf (λ (c : B). not (meet b c)) bs ≡ true = and-left (allOf (λ (c : B). not (meet b c)) bs) (apart meet bs) d in
+        let h = without-weight (serves b) w (x b) l (weighs b) here in
+        let k =
         pigeonhole bs (without (serves b) l) (and-right (allOf (λ (c : B). not (meet b c)) bs) (apart meet bs) d)
         (allOf-map (λ (c : B). not (meet b c) && anyOf (serves c) l) (λ (c : B). anyOf (serves c) (without (serves b) l)) bs (still b l)
         (allOf-both (λ (c : B). not (meet b c)) (λ (c : B). anyOf (serves c) l) bs off later)) in
-      omega arith
-    where
-      still : (b : B) (l : List A) (c : B) → (not (meet b c) && anyOf (serves c) l) ≡ true → anyOf (serves c) (without (serves b) l) ≡ true
-      still b l c q =
-          without-other (serves b) (serves c) l
-          (λ a f g. clash (meet b c) (meets b c a f g) (not-true (meet b c) (and-left (not (meet b c)) (anyOf (serves c) l) q)))
-          (and-right (not (meet b c)) (anyOf (serves c) l) q)
+        omega arith
+      where
+        still : (b : B) (l : List A) (c : B) → (not (meet b c) && anyOf (serves c) l) ≡ true → anyOf (serves c) (without (serves b) l) ≡ true
+        still b l c q =
+            without-other (serves b) (serves c) l
+            (λ a f g. clash (meet b c) (meets b c a f g) (not-true (meet b c) (and-left (not (meet b c)) (anyOf (serves c) l) q)))
+            (and-right (not (meet b c)) (anyOf (serves c) l) q)

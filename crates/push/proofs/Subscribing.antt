@@ -23,10 +23,10 @@ unfolding additions
 view-more subs s store client d x = record {
   once = distinct-appliedAll (map addition matching) client (x .once);
   same = λ k. find-appliedAll k (map addition matching) client
-  ∙ acts-additions k matching (find k client) (distinct-keep (matches s) store d)
-  ∙ rw (find-keep (matchesKey s) k store, x .same k, find-view k subs store) (go k (matchesKey s k) (wantedKey subs k) (find k store))
-  ∙ ap (λ (b : Bool). cond b (find k store) none) (sym (wantedKey-more subs s k))
-  ∙ sym (find-view k (subs ++ (s ∷ [])) store);
+      ∙ acts-additions k matching (find k client) (distinct-keep (matches s) store d)
+      ∙ rw (find-keep (matchesKey s) k store, x .same k, find-view k subs store) (go k (matchesKey s k) (wantedKey subs k) (find k store))
+      ∙ ap (λ (b : Bool). cond b (find k store) none) (sym (wantedKey-more subs s k))
+      ∙ sym (find-view k (subs ++ (s ∷ [])) store);
 }
   where
     matching : List Record
