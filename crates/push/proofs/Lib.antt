@@ -12,6 +12,3 @@ pub mod Subscribing
 pub mod Sizes
 pub mod Needed
 pub mod Fewest
-pub mod ReadBack
-pub mod Framing
-pub mod Plains
