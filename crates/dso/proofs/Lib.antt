@@ -3,3 +3,4 @@ pub mod Openings
 pub mod Reading
 pub mod Tlvs
 pub mod Judgments
+pub mod Responses

@@ -10,7 +10,8 @@ use borrow.Author.Tests.{leb-true, le-leb}
 use Rattle.zone.specs.Lists.{allOf}
 use Rattle.zone.specs.Record.{Record, keyOf}
 use Rattle.zone.specs.Store.{find, held}
-use Rattle.zone.specs.Match.{Subscription, any, wanted, view}
+use Rattle.dso.specs.Judge.{any}
+use Rattle.zone.specs.Match.{Subscription, wanted, view}
 use Rattle.zone.specs.Layout.{size}
 use Rattle.zone.specs.Batch.{maxRdata, maxRecords}
 use Rattle.zone.specs.Fits.{maxSize}

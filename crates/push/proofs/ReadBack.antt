@@ -14,7 +14,7 @@ use borrow.Author.Tests.{not-true}
 use Rattle.wire.proofs.Fields.{areBytes-append}
 use Rattle.zone.specs.Lists.{allOf}
 use Rattle.zone.specs.Record.{Record}
-use Rattle.zone.specs.Match.{any}
+use Rattle.dso.specs.Judge.{any}
 use Rattle.zone.specs.Layout.{size, recordOctets, readRecord}
 use Rattle.zone.specs.Batch.{maxTtl}
 use Rattle.zone.specs.Fits.{fits}

@@ -2,7 +2,7 @@
 use Prim.Native.Nat.{ℕ, _+_, _*_}
 use mathlib.Core.Bool.{Bool, true, not, _&&_}
 use lib.Dec.{leb, eqb}
-use Rattle.zone.specs.Match.{any}
+use Rattle.dso.specs.Judge.{any}
 use Rattle.zone.specs.Batch.{maxTtl, maxRecords}
 use Rattle.zone.specs.Fits.{fits, maxSize}
 use Rattle.push.specs.Change.{single, rrset, allTypes, allClasses, Change, addition, removal, fieldsOf}

@@ -18,16 +18,16 @@ use Rattle.zone.specs.Sound.{Exactly, Sound}
 use Rattle.zone.proofs.Batches.{sound-batch}
 use Rattle.push.specs.Change.{Change, appliedAll}
 use Rattle.push.specs.List.{changes}
-use Rattle.push.specs.Octets.{pushOf, changesOctets}
-use Rattle.push.specs.Frames.{framesIn, oneMore}
-use Rattle.push.proofs.Framing.{Sendable, pushMessage, pushOf-nil, framesIn-nil, framesIn-push, pushIn-changes}
+use Rattle.push.specs.Octets.{pushOf}
+use Rattle.push.specs.Frames.{framesIn}
+use Rattle.push.proofs.Framing.{Sendable, pushMessages, framesIn-pushOf, pushIn-changes}
 use Rattle.push.proofs.Plains.{changes-plain, sendable, length-pushOf-le}
 use Rattle.server.specs.State.{State, Session, Slot, free, live, maxSessions}
 use Rattle.server.specs.Answer.{Answer, done, sent, answerNumber}
 use Rattle.server.specs.Checks.{outputSize, leastOutput}
 use Rattle.server.specs.Call.{Bytes, edits, Outcome, batchOutcome, pushTo, told, written, refuse}
 use Rattle.server.specs.declared.refusal.Refusal.the-variants.{Batch}
-use Rattle.views.specs.Reader.{bytesFor, messagesIn, orNone, pushesIn, pushesOf}
+use Rattle.views.specs.Reader.{bytesFor, messagesIn, orNone, allPushes, pushesIn, pushesOf}
 use Rattle.views.specs.Observer.{
   Client, Observer, noted, observe, hearing, heard, storedOr, applyPush, applyPushes,
 }
@@ -39,23 +39,24 @@ use Rattle.views.proofs.Plain.{Kept}
 
 -- ---- a PUSH is heard as the changes that it was written for
 
-frames-push : (c : Change) (cs : List Change) → Sendable (c ∷ cs)
-    → framesIn 0 (pushOf (c ∷ cs)) ≡ some (pushMessage (changesOctets (c ∷ cs)) ∷ [])
-frames-push c cs s =
-    ap (framesIn 0) (sym (append-nil (pushOf (c ∷ cs))))
-    ∙ framesIn-push c cs [] s
-    ∙ ap (oneMore (pushMessage (changesOctets (c ∷ cs)))) framesIn-nil
+pub pushed-applied : (cs : List Change) (records : List Record) → Sendable cs
+    → applyPushes (pushMessages cs) records ≡ appliedAll cs records
+unfolding appliedAll
+pushed-applied [] records s = refl
+pushed-applied (c ∷ cs) records s = rw (pushIn-changes c cs s)
+
+pushed-read : (cs : List Change) → Sendable cs → allPushes (pushMessages cs) ≡ some (inOne cs)
+pushed-read [] s = refl
+pushed-read (c ∷ cs) s = rw (pushIn-changes c cs s)
 
 pub hearing-push : (cs : List Change) (records : List Record) → Sendable cs
     → applyPushes (messagesIn (pushOf cs)) records ≡ appliedAll cs records
-unfolding messagesIn appliedAll
-hearing-push [] records s = rw (pushOf-nil, framesIn-nil)
-hearing-push (c ∷ cs) records s = rw (frames-push c cs s, pushIn-changes c cs s)
+unfolding messagesIn
+hearing-push cs records s = rw (framesIn-pushOf cs s) (pushed-applied cs records s)
 
 pub pushesIn-push : (cs : List Change) → Sendable cs → pushesIn (pushOf cs) ≡ some (inOne cs)
 unfolding pushesIn
-pushesIn-push [] s = rw (pushOf-nil, framesIn-nil)
-pushesIn-push (c ∷ cs) s = rw (frames-push c cs s, pushIn-changes c cs s)
+pushesIn-push cs s = rw (framesIn-pushOf cs s) (pushed-read cs s)
 
 -- ---- the relation
 

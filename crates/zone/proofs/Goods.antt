@@ -11,7 +11,7 @@ use Rattle.wire.specs.Name.{isName, within}
 use Rattle.wire.proofs.Names.{isName-max}
 use Rattle.zone.specs.Record.{Record}
 use Rattle.zone.specs.Layout.{size}
-use Rattle.zone.specs.Match.{any}
+use Rattle.dso.specs.Judge.{any}
 use Rattle.zone.specs.Batch.{allowed, isPut, isPlain, maxTtl, removeTtl, maxRdata}
 use Rattle.zone.specs.Sound.{good}
 use Rattle.zone.specs.Fits.{fits, maxSize}
