@@ -6,3 +6,4 @@ pub mod Checks
 pub mod Plain
 pub mod Batch
 pub mod Replies
+pub mod Message
