@@ -3,3 +3,4 @@ pub mod Lists
 pub mod Keys
 pub mod Stores
 pub mod Views
+pub mod Batches
