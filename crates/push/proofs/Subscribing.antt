@@ -14,7 +14,7 @@ use Rattle.zone.proofs.Stores.{orElse, orElse-none, find-keep, distinct-keep}
 use Rattle.zone.proofs.Views.{wantedKey, wantedKey-more, find-view}
 use Rattle.push.specs.Change.{addition, appliedAll}
 use Rattle.push.specs.List.{additions}
-use Rattle.push.proofs.Effects.{acts, find-appliedAll, acts-additions, distinct-appliedAll}
+use Rattle.push.proofs.Effects.{find-appliedAll, acts-additions, distinct-appliedAll}
 
 pub view-more : (subs : List Subscription) (s : Subscription) (store client : List Record) → distinct store ≡ true
     → Exactly client (view subs store)
@@ -23,10 +23,10 @@ unfolding additions
 view-more subs s store client d x = record {
   once = distinct-appliedAll (map addition matching) client (x .once);
   same = λ k. find-appliedAll k (map addition matching) client
-  ∙ acts-additions k matching (find k client) (distinct-keep (matches s) store d)
-  ∙ rw (find-keep (matchesKey s) k store, x .same k, find-view k subs store) (go k (matchesKey s k) (wantedKey subs k) (find k store))
-  ∙ ap (λ (b : Bool). cond b (find k store) none) (sym (wantedKey-more subs s k))
-  ∙ sym (find-view k (subs ++ (s ∷ [])) store);
+      ∙ acts-additions k matching (find k client) (distinct-keep (matches s) store d)
+      ∙ rw (find-keep (matchesKey s) k store, x .same k, find-view k subs store) (go k (matchesKey s k) (wantedKey subs k) (find k store))
+      ∙ ap (λ (b : Bool). cond b (find k store) none) (sym (wantedKey-more subs s k))
+      ∙ sym (find-view k (subs ++ (s ∷ [])) store);
 }
   where
     matching : List Record

@@ -52,16 +52,16 @@ distinct-editAll (r ∷ rs) l d = distinct-editAll rs (edit l r) (distinct-edit 
 
 -- What one more edit makes of a batch, by what is asked of it in turn.
 module _ (n : ℕ) (zone : List ℕ) (b : ℕ) (l : List ℕ) (store : List Record) where
-  abbrev onFull : Record → Bool → Edited
+  abbrev pub onFull : Record → Bool → Edited
   onFull r o = elim o [ true ↦ faulty StoreFull | false ↦ edited n zone (drop (size r) (b ∷ l)) (edit store r) ]
 
-  abbrev onValue : Record → Bool → Edited
+  abbrev pub onValue : Record → Bool → Edited
   onValue r a = elim a [ false ↦ faulty BadValue | true ↦ onFull r (overfull store r) ]
 
-  abbrev onReading : Option Record → Edited
+  abbrev pub onReading : Option Record → Edited
   onReading o = elim o [ none ↦ faulty Unreadable | some r ↦ onValue r (allowed zone r) ]
 
-  edited-next : edited (suc n) zone (b ∷ l) store ≡ onReading (readRecord (b ∷ l))
+  pub edited-next : edited (suc n) zone (b ∷ l) store ≡ onReading (readRecord (b ∷ l))
   unfolding edited
   edited-next = refl
 
@@ -79,7 +79,7 @@ module _ (n : ℕ) (zone : List ℕ) (b : ℕ) (l : List ℕ) (store : List Reco
       → edited (suc n) zone (b ∷ l) store ≡ edited n zone (drop (size r) (b ∷ l)) (edit store r)
   edited-taken r h a o = edited-next ∙ ap onReading h ∙ ap (onValue r) a ∙ ap (onFull r) o
 
-never-stored : {X : Type 0} {f : BatchFault} {l : List Record} (e : Edited) → e ≡ faulty f → e ≡ stored l → X
+pub never-stored : {X : Type 0} {f : BatchFault} {l : List Record} (e : Edited) → e ≡ faulty f → e ≡ stored l → X
 never-stored e p q = absurd (let z : _≡_ {A = ℕ} 0 1 = cc in omega arith)
 
 -- The edits of a batch that is taken.
@@ -88,7 +88,7 @@ pub record Edits (n : ℕ) (old new : List Record) : Type 0 where
   pub few : length edits ≤ n
   pub make : editAll edits old ≡ new
 
-no-edits : (n : ℕ) (old new : List Record) (e : Edited) → e ≡ stored old → e ≡ stored new → Edits n old new
+pub no-edits : (n : ℕ) (old new : List Record) (e : Edited) → e ≡ stored old → e ≡ stored new → Edits n old new
 no-edits n old new e p q = record { edits = []; few = zero-le; make = cc }
 
 pub edits-of : (n : ℕ) (zone bytes : List ℕ) (old new : List Record) → edited n zone bytes old ≡ stored new → Edits n old new
