@@ -2,7 +2,7 @@
 use Prim.Native.Nat.{ℕ}
 use mathlib.Core.Path.{_≡_, refl, sym, ap, _∙_, fun-ext}
 use mathlib.Core.Bool.{Bool, true, false, cond, not}
-use mathlib.Core.List.{List, [], _∷_, _++_, map}
+use mathlib.Core.List.{List, [], map}
 use mathlib.Core.Option.{Option, none, some}
 use lib.Dec.{eqb}
 use borrow.Author.Tests.{eqb-true}
@@ -11,7 +11,7 @@ use Rattle.zone.specs.Record.{Record, Key, keyOf}
 use Rattle.zone.specs.Store.{find, held}
 use Rattle.zone.specs.Match.{Subscription, view}
 use Rattle.zone.specs.Sound.{distinct, Exactly}
-use Rattle.zone.proofs.Lists.{clash, and-left, and-both, allOf-append, allOf-of-map, allOf-any, allOf-map, anyOf-never}
+use Rattle.zone.proofs.Lists.{clash, and-both, allOf-append, allOf-of-map, allOf-any, anyOf-never}
 use Rattle.zone.proofs.Stores.{
   orElse,
   passing,
@@ -26,9 +26,9 @@ use Rattle.zone.proofs.Stores.{
   distinct-keep,
 }
 use Rattle.zone.proofs.Views.{wantedKey, find-view, distinct-view}
-use Rattle.push.specs.Change.{Removal, Change, addition, removal, covers, isTrue, appliedAll}
+use Rattle.push.specs.Change.{addition, removal, covers, isTrue, appliedAll}
 use Rattle.push.specs.List.{widest, chosen, firsts, leaving, hasTtl, entering, removals, additions, changes}
-use Rattle.push.specs.Measure.{honest, allTrue}
+use Rattle.push.specs.Measure.{isTrueChange, onlyTrue}
 use Rattle.push.proofs.Effects.{acts, find-appliedAll, acts-append, acts-removals, acts-additions, distinct-appliedAll}
 use Rattle.push.proofs.Covers.{isTrue-uncovered}
 use Rattle.push.proofs.Chosen.{widest-own, widest-class, alike-at, chosen-alike, chosen-true}
@@ -105,7 +105,7 @@ module _ (store old new : List Record) (b : Between store old new) where
   pub heads-widest : heads ≡ firsts (widest store) [] (leaving old new)
   heads-widest = firsts-alike (chosen store (leaving old new)) (widest store) [] (leaving old new) (chosen-alike store (leaving old new))
 
-  distinct-leaving : distinct (leaving old new) ≡ true
+  pub distinct-leaving : distinct (leaving old new) ≡ true
   distinct-leaving = distinct-keep (λ (r : Record). not (held (keyOf r) new)) old (b .before)
 
   pub allOf-heads : (p : Record → Bool) → ((r : Record) → Leaves (keyOf r) old new → p r ≡ true) → allOf p heads ≡ true
@@ -118,17 +118,8 @@ module _ (store old new : List Record) (b : Between store old new) where
       allOf-heads (λ (r : Record). isTrue store (chosen store (leaving old new) r))
       (λ r l. chosen-true store (leaving old new) r (b .gone (keyOf r) (l .before) (l .after)))
 
-  -- No removal covers a record of the new store.
-  pub changes-true : allTrue store (changes store old new) ≡ true
-  unfolding changes removals additions
-  changes-true =
-      allOf-append (honest store) (map (λ (r : Record). removal (chosen store (leaving old new) r)) heads) (map addition (entering old new))
-      ∙ and-both
-      (allOf-of-map (λ (r : Record). removal (chosen store (leaving old new) r)) (honest store) heads ∙ heads-true)
-      (allOf-of-map addition (honest store) (entering old new) ∙ allOf-any (λ (r : Record). true) (entering old new) (λ r. refl))
-
   -- Each leaving record is covered.
-  heads-cover : (k : Key) → Leaves k old new → anyOf (λ (r : Record). covers (chosen store (leaving old new) r) k) heads ≡ true
+  pub heads-cover : (k : Key) → Leaves k old new → anyOf (λ (r : Record). covers (chosen store (leaving old new) r) k) heads ≡ true
   heads-cover k l =
       ap (λ (p : Record → Bool). anyOf p heads) (fun-ext (λ r. alike-at (leaving old new) (chosen store (leaving old new) r) (widest store r) k (chosen-alike store (leaving old new) r) (is-leaving k old new l)))
       ∙ ap (anyOf (λ (r : Record). covers (widest store r) k)) heads-widest
@@ -137,7 +128,7 @@ module _ (store old new : List Record) (b : Between store old new) where
       (is-leaving k old new l)
 
   -- What stays is not covered.
-  heads-spare : (k : Key) → held k new ≡ true → anyOf (λ (r : Record). covers (chosen store (leaving old new) r) k) heads ≡ false
+  pub heads-spare : (k : Key) → held k new ≡ true → anyOf (λ (r : Record). covers (chosen store (leaving old new) r) k) heads ≡ false
   heads-spare k h =
       anyOf-never (λ (r : Record). isTrue store (chosen store (leaving old new) r)) (λ (r : Record). covers (chosen store (leaving old new) r) k)
       heads heads-true (λ r e. isTrue-uncovered store (chosen store (leaving old new) r) k e (b .stored k h))
@@ -182,3 +173,12 @@ module _ (store old new : List Record) (b : Between store old new) where
         ∙ ap (acts k (changes store old new)) (x .same k)
         ∙ arrives-at k;
   }
+
+  -- No removal covers a record of the new store.
+  pub changes-true : onlyTrue store (changes store old new) ≡ true
+  unfolding changes removals additions
+  changes-true =
+      allOf-append (isTrueChange store) (map (λ (r : Record). removal (chosen store (leaving old new) r)) heads) (map addition (entering old new))
+      ∙ and-both
+      (allOf-of-map (λ (r : Record). removal (chosen store (leaving old new) r)) (isTrueChange store) heads ∙ heads-true)
+      (allOf-of-map addition (isTrueChange store) (entering old new) ∙ allOf-any (λ (r : Record). true) (entering old new) (λ r. refl))

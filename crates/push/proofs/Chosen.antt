@@ -3,19 +3,17 @@
 use Prim.Native.Nat.{ℕ, zero, suc, _+_, _≤_}
 use mathlib.Core.Path.{_≡_, refl, sym, ap, _∙_}
 use mathlib.Core.Logic.{_⊎_, inl, inr, _≢_}
-use mathlib.Core.Bool.{Bool, true, false, cond, not, _||_, Bool·beq, or-false}
-use mathlib.Core.List.{List, [], _∷_, _++_, append-nil}
+use mathlib.Core.Bool.{Bool, true, false, cond, Bool·beq}
+use mathlib.Core.List.{List}
 use native.Mathlib.Omega.{arith}
 use lib.Dec.{leb}
 use lib.ListN.{length}
-use lib.Seq.{append-snoc}
-use Rattle.zone.specs.Lists.{onlyIf, anyOf, allOf}
 use Rattle.zone.specs.Record.{Record, Key, keyOf}
 use Rattle.zone.specs.Store.{held}
 use Rattle.zone.specs.Layout.{size}
-use Rattle.zone.proofs.Lists.{clash, decided, beq-true, beq-refl, allOf-any, allOf-map, allOf-onlyIf, allOf-both, anyOf-append, anyOf-absorb, and-left, and-right, and-both, or-left, or-right}
+use Rattle.zone.proofs.Lists.{clash, decided, beq-true, beq-refl, allOf-any}
 use Rattle.zone.proofs.Stores.{allOf-held}
-use borrow.Author.Tests.{not-true, leb-true, leb-false}
+use borrow.Author.Tests.{leb-true, leb-false}
 use Rattle.push.specs.Change.{Removal, removal, covers, isTrue, fieldsOf}
 use Rattle.push.specs.List.{singleAt, rrsetAt, allTypesAt, allClassesAt, widest, alike, chosen}
 use Rattle.push.proofs.Covers.{at, grade, at-own, covers-at, at-within, isTrue-within, isTrue-at, isTrue-single}
@@ -70,7 +68,7 @@ widest-widest store r m k e c d =
     rw (w .is) (at-within (w .index) (grade m) r k (w .least (grade m) f) (sym (covers-at m r k c) ∙ d))
 
 -- It is true where the record is gone.
-narrow-or-single : (n : ℕ) → n ≤ 3 → (n ≤ 2) ⊎ (n ≡ 3)
+pub narrow-or-single : (n : ℕ) → n ≤ 3 → (n ≤ 2) ⊎ (n ≡ 3)
 narrow-or-single zero h = inl (omega arith)
 narrow-or-single (suc zero) h = inl (omega arith)
 narrow-or-single (suc (suc zero)) h = inl (omega arith)
@@ -86,13 +84,13 @@ widest-true store r e =
     go i f (inr h) = rw h e
 
 -- The records that one widest removal covers have the same widest removal, but for spelling.
-grade-at : (n : ℕ) (r : Record) → n ≤ 3 → grade (at n r) ≡ n
+pub grade-at : (n : ℕ) (r : Record) → n ≤ 3 → grade (at n r) ≡ n
 grade-at zero r h = refl
 grade-at (suc zero) r h = refl
 grade-at (suc (suc zero)) r h = refl
 grade-at (suc (suc (suc n))) r h = omega arith
 
-at-same : (n : ℕ) (e r : Record) (k : Key) → n ≤ 3 → covers (at n e) (keyOf r) ≡ true → covers (at n e) k ≡ covers (at n r) k
+pub at-same : (n : ℕ) (e r : Record) (k : Key) → n ≤ 3 → covers (at n e) (keyOf r) ≡ true → covers (at n e) k ≡ covers (at n r) k
 at-same n e r k h c = covers-at (at n e) r k c ∙ ap (λ (i : ℕ). covers (at i r) k) (grade-at n e h)
 
 pub widest-class : (store : List Record) (e r : Record) (k : Key) → covers (widest store e) (keyOf r) ≡ true

@@ -1,6 +1,6 @@
 -- Laws of removals: what they cover and when they are true.
 use Prim.Native.Nat.{ℕ, zero, suc, _+_, _-_, _≤_}
-use mathlib.Core.Path.{_≡_, refl, sym, ap, _∙_}
+use mathlib.Core.Path.{_≡_, refl, ap, _∙_}
 use mathlib.Core.Bool.{Bool, true, false, not, _&&_}
 use mathlib.Core.List.{List}
 use native.Mathlib.Omega.{arith}
@@ -63,7 +63,7 @@ covers-at (allTypes o c) r k e =
 covers-at (allClasses o) r k e = rw (sameOctets-true (lowered o) (lowered (r .owner)) e)
 
 -- A narrower one covers no more.
-at-step : (n : ℕ) (r : Record) (k : Key) → covers (at (suc n) r) k ≡ true → covers (at n r) k ≡ true
+pub at-step : (n : ℕ) (r : Record) (k : Key) → covers (at (suc n) r) k ≡ true → covers (at n r) k ≡ true
 unfolding covers sameKey
 at-step zero r k e = and-left (sameOctets (lowered (r .owner)) (k .owner)) (eqb (r .rrclass) (k .rrclass)) e
 at-step (suc zero) r k e =

@@ -12,3 +12,5 @@ pub mod Subscribing
 pub mod Sizes
 pub mod Needed
 pub mod Fewest
+pub mod Few
+pub mod Quoted

@@ -1,14 +1,14 @@
 -- The weighted pigeonhole: where each of some demands is served by a member of a list, none serves two, and none weighs less
 -- than what it serves, the list weighs at least as much as the demands.
-use Prim.Native.Nat.{ℕ, zero, suc, _+_, _≤_}
-use mathlib.Core.Path.{_≡_, refl, sym, ap, ap₂, _∙_}
-use mathlib.Core.Bool.{Bool, true, false, cond, not, _&&_, _||_}
+use Prim.Native.Nat.{ℕ, _+_, _≤_}
+use mathlib.Core.Path.{_≡_, refl, ap}
+use mathlib.Core.Bool.{Bool, true, false, cond, not, _&&_}
 use mathlib.Core.List.{List, [], _∷_, _++_, map}
 use native.Mathlib.Omega.{arith}
 use lib.ListN.{length}
 use borrow.Author.Tests.{not-true}
 use Rattle.zone.specs.Lists.{anyOf, allOf}
-use Rattle.zone.proofs.Lists.{clash, never, and-left, and-right, allOf-map, allOf-both}
+use Rattle.zone.proofs.Lists.{clash, and-left, and-right, allOf-map, allOf-both}
 use Rattle.push.specs.Measure.{total}
 
 -- ---- sums
@@ -43,12 +43,12 @@ module _ {A : Type 0} where
   apart meet (a ∷ l) = allOf (λ (b : A). not (meet a b)) l && apart meet l
 
   -- The list without the first member that passes.
-  abbrev without : (A → Bool) → List A → List A
+  abbrev pub without : (A → Bool) → List A → List A
   without p [] = []
   without p (a ∷ l) = cond (p a) l (a ∷ without p l)
 
   -- Who passes another test is still there.
-  without-other : (p q : A → Bool) (l : List A) → ((a : A) → p a ≡ true → q a ≡ true → ⊥) → anyOf q l ≡ true
+  pub without-other : (p q : A → Bool) (l : List A) → ((a : A) → p a ≡ true → q a ≡ true → ⊥) → anyOf q l ≡ true
       → anyOf q (without p l) ≡ true
   without-other p q [] f e = e
   without-other p q (a ∷ l) f e = go (p a) refl (q a) refl (without-other p q l f)
@@ -60,7 +60,7 @@ module _ {A : Type 0} where
       go false h true i g = rw i
       go false h false i g = rw i (g (rw i at e))
 
-  without-weight : (p : A → Bool) (w : A → ℕ) (x : ℕ) (l : List A) → ((a : A) → p a ≡ true → x ≤ w a) → anyOf p l ≡ true
+  pub without-weight : (p : A → Bool) (w : A → ℕ) (x : ℕ) (l : List A) → ((a : A) → p a ≡ true → x ≤ w a) → anyOf p l ≡ true
       → x + total w (without p l) ≤ total w l
   without-weight p w x [] f e = clash (anyOf p []) e refl
   without-weight p w x (a ∷ l) f e = go (p a) refl (without-weight p w x l f)

@@ -1,5 +1,5 @@
 -- Sizes of changes: no true removal of a record is shorter than the chosen one, and adds of one key are equally long.
-use Prim.Native.Nat.{ℕ, _+_, _≤_}
+use Prim.Native.Nat.{_+_, _≤_}
 use mathlib.Core.Path.{_≡_, refl, sym, ap, _∙_}
 use mathlib.Core.Bool.{Bool, true, false, _&&_}
 use mathlib.Core.List.{List}
@@ -8,11 +8,11 @@ use lib.ListN.{length}
 use lib.Dec.{eqb}
 use Rattle.wire.specs.Name.{lowered, sameOctets}
 use Rattle.wire.proofs.Names.{sameOctets-true, length-case}
-use Rattle.zone.specs.Record.{Record, Key, keyOf, sameKey}
+use Rattle.zone.specs.Record.{Record, Key, keyOf}
 use Rattle.zone.specs.Layout.{size}
 use Rattle.zone.proofs.Lists.{and-left, clash}
 use Rattle.zone.proofs.Keys.{sameKey-true}
-use Rattle.push.specs.Change.{Removal, single, rrset, allTypes, allClasses, Change, addition, removal, covers, isTrue, fieldsOf}
+use Rattle.push.specs.Change.{Removal, single, rrset, allTypes, allClasses, removal, covers, isTrue, fieldsOf}
 use Rattle.push.specs.List.{rrsetAt, chosen}
 use Rattle.push.proofs.Covers.{at, grade, covers-at, isTrue-within, isTrue-at}
 use Rattle.push.proofs.Chosen.{chosen-single, chosen-size}

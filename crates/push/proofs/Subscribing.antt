@@ -14,7 +14,7 @@ use Rattle.zone.proofs.Stores.{orElse, orElse-none, find-keep, distinct-keep}
 use Rattle.zone.proofs.Views.{wantedKey, wantedKey-more, find-view}
 use Rattle.push.specs.Change.{addition, appliedAll}
 use Rattle.push.specs.List.{additions}
-use Rattle.push.proofs.Effects.{acts, find-appliedAll, acts-additions, distinct-appliedAll}
+use Rattle.push.proofs.Effects.{find-appliedAll, acts-additions, distinct-appliedAll}
 
 pub view-more : (subs : List Subscription) (s : Subscription) (store client : List Record) → distinct store ≡ true
     → Exactly client (view subs store)

@@ -9,13 +9,13 @@ use Rattle.zone.specs.Store.{find}
 use Rattle.zone.specs.Layout.{size}
 use Rattle.push.specs.Change.{Change, addition, removal, isTrue, appliedAll, fieldsOf}
 
-abbrev pub honest : List Record → Change → Bool
-honest store (addition r) = true
-honest store (removal m) = isTrue store m
+abbrev pub isTrueChange : List Record → Change → Bool
+isTrueChange store (addition r) = true
+isTrueChange store (removal m) = isTrue store m
 
 -- Whether all removals of a list are true.
-abbrev pub allTrue : List Record → List Change → Bool
-allTrue store cs = allOf (honest store) cs
+abbrev pub onlyTrue : List Record → List Change → Bool
+onlyTrue store cs = allOf (isTrueChange store) cs
 
 abbrev pub total : {A : Type 0} → (A → ℕ) → List A → ℕ
 total w [] = 0
@@ -28,5 +28,5 @@ bytes cs = total (λ (c : Change). size (fieldsOf c)) cs
 -- "The other lists it is measured against are all lists of adds and these four removals that, applied so, bring the old view
 -- to the new with true removals only."
 pub record Brings (store old new : List Record) (cs : List Change) : Type 0 where
-  pub honest : allTrue store cs ≡ true
+  pub trueOnly : onlyTrue store cs ≡ true
   pub arrives : (k : Key) → find k (appliedAll cs old) ≡ find k new

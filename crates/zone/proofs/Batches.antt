@@ -251,30 +251,20 @@ abbrev pub editedBy : List Record → List Record → List Record
 editedBy [] store = store
 editedBy (r ∷ rs) store = editedBy rs (edit store r)
 
-pub record Edits (zone : List ℕ) (n : ℕ) (store after : List Record) : Type 0 where
+pub record Edits (n : ℕ) (store after : List Record) : Type 0 where
   pub edits : List Record
   pub few : length edits ≤ n
-  pub gives : after ≡ editedBy edits store
-  pub fit : allOf fits edits ≡ true
-  pub values : allOf (allowed zone) edits ≡ true
+  pub gives : editedBy edits store ≡ after
 
-pub edits-of : {zone : List ℕ} {n : ℕ} {l : List ℕ} {store after : List Record} → Editing zone n l store after → areBytes l ≡ true
-    → Edits zone n store after
-edits-of done b = record { edits = []; few = omega arith; gives = refl; fit = refl; values = refl }
-edits-of {l = l} (next r e a f g) b =
-    let x = edits-of g (areBytes-drop (size r) l b) in
-    record {
-      edits = r ∷ x .edits;
-      few = omega (arith, x .few);
-      gives = x .gives;
-      fit = and-both (readRecord-fits l r b e) (x .fit);
-      values = and-both a (x .values);
-    }
+edits-of : {zone : List ℕ} {n : ℕ} {l : List ℕ} {store after : List Record} → Editing zone n l store after → Edits n store after
+edits-of done = record { edits = []; few = omega arith; gives = refl }
+edits-of (next r e a f g) =
+    let x = edits-of g in
+    record { edits = r ∷ x .edits; few = omega (arith, x .few); gives = x .gives }
 
-pub batch-edits : (zone bytes : List ℕ) (store after : List Record) → areBytes bytes ≡ true
-    → batchOf zone bytes store ≡ stored after → Edits zone maxEdits store after
+pub batch-edits : (zone bytes : List ℕ) (store after : List Record) → batchOf zone bytes store ≡ stored after → Edits maxEdits store after
 unfolding batchOf
-batch-edits zone bytes store after b h = edits-of (editing zone maxEdits bytes store after h) b
+batch-edits zone bytes store after h = edits-of (editing zone maxEdits bytes store after h)
 
 -- Every record of the new store is of the old one or an edit's, perhaps with another TTL: what holds of those whatever their
 -- TTL holds of all.
