@@ -78,14 +78,18 @@ response id r = header id (responseFlags (responseCode r)) ++ tlvsOctets (respon
 unfoldable pub responseOctets : ℕ → Response → List ℕ
 responseOctets id r = framed (response id r)
 
--- What reading a frame by the definitions of a header and of TLVs gives, where it is the response to an ID: the prefix is
--- the message's length; the ID, QR, the opcode, Z, the RCODE and the counts; and exactly the TLVs that were meant.
+-- What reading a message by the definitions of a header and of TLVs gives, where it is the response to an ID: the ID, QR,
+-- the opcode, Z, the RCODE and the counts, and exactly the TLVs that were meant.
+pub record ReadsMessage (id : ℕ) (r : Response) (m : List ℕ) : Type 0 where
+  pub sameId : messageId m ≡ id
+  pub isAnswer : isResponse m ≡ true
+  pub ofDso : opcode m ≡ dsoOpcode
+  pub noZ : zBits m ≡ 0
+  pub code : rcode m ≡ responseCode r
+  pub noCounts : noRecords m ≡ true
+  pub carried : tlvs (drop headerLength m) ≡ some (responseTlvs r)
+
+-- The same of a frame: its prefix is the message's length.
 pub record ReadsAs (id : ℕ) (r : Response) (frame : List ℕ) : Type 0 where
   pub prefix : field 2 frame ≡ length (drop 2 frame)
-  pub sameId : messageId (drop 2 frame) ≡ id
-  pub isAnswer : isResponse (drop 2 frame) ≡ true
-  pub ofDso : opcode (drop 2 frame) ≡ dsoOpcode
-  pub noZ : zBits (drop 2 frame) ≡ 0
-  pub code : rcode (drop 2 frame) ≡ responseCode r
-  pub noCounts : noRecords (drop 2 frame) ≡ true
-  pub carried : tlvs (drop headerLength (drop 2 frame)) ≡ some (responseTlvs r)
+  pub message : ReadsMessage id r (drop 2 frame)
