@@ -1,11 +1,11 @@
 //! The command line.
 
-use reference::{hex, kind_cases, name_cases};
+use reference::{hex, kind_cases, name_cases, replay};
 use std::collections::HashMap;
-use std::io::{self, BufWriter, Write};
+use std::io::{self, BufWriter, Read, Write};
 use std::process::ExitCode;
 
-const USAGE: &str = "usage: reference kinds --seed N --count N | names --seed N --in FILE --out FILE";
+const USAGE: &str = "usage: reference replay | kinds --seed N --count N | names --seed N --in FILE --out FILE";
 
 /// What stopped a sub-command.
 enum Stop {
@@ -58,9 +58,17 @@ fn names(options: Options) -> Result<ExitCode, Stop> {
     Ok(ExitCode::SUCCESS)
 }
 
+fn replay_input() -> Result<ExitCode, Stop> {
+    let mut input = Vec::new();
+    io::stdin().lock().read_to_end(&mut input)?;
+    io::stdout().lock().write_all(replay::replay(&input).as_bytes())?;
+    Ok(ExitCode::SUCCESS)
+}
+
 fn run(arguments: &[String]) -> Result<ExitCode, Stop> {
     let (command, rest) = arguments.split_first().ok_or(Stop::Usage)?;
     match command.as_str() {
+        "replay" if rest.is_empty() => replay_input(),
         "kinds" => kinds(Options::read(rest, &["--seed", "--count"])?),
         "names" => names(Options::read(rest, &["--seed", "--in", "--out"])?),
         _ => Err(Stop::Usage),
