@@ -1,11 +1,12 @@
 //! The command line.
 
-use reference::{hex, kind_cases, name_cases, replay};
+use reference::{hex, kind_cases, name_cases, replay, script, selftest};
 use std::collections::HashMap;
 use std::io::{self, BufWriter, Read, Write};
 use std::process::ExitCode;
 
-const USAGE: &str = "usage: reference replay | kinds --seed N --count N | names --seed N --in FILE --out FILE";
+const USAGE: &str = "usage: reference replay | script --seed N --lines N | kinds --seed N --count N | \
+names --seed N --in FILE --out FILE | selftest --seed N --calls N";
 
 /// What stopped a sub-command.
 enum Stop {
@@ -65,10 +66,27 @@ fn replay_input() -> Result<ExitCode, Stop> {
     Ok(ExitCode::SUCCESS)
 }
 
+fn write_script(options: Options) -> Result<ExitCode, Stop> {
+    let text = script::script(options.number("--seed")?, options.number("--lines")? as usize);
+    io::stdout().lock().write_all(&text)?;
+    Ok(ExitCode::SUCCESS)
+}
+
+fn test_itself(options: Options) -> Result<ExitCode, Stop> {
+    let (report, code) = match selftest::run(options.number("--seed")?, options.number("--calls")?) {
+        Ok(counts) => (counts.report(), ExitCode::SUCCESS),
+        Err(failure) => (failure.report(), ExitCode::from(1)),
+    };
+    io::stdout().lock().write_all(report.as_bytes())?;
+    Ok(code)
+}
+
 fn run(arguments: &[String]) -> Result<ExitCode, Stop> {
     let (command, rest) = arguments.split_first().ok_or(Stop::Usage)?;
     match command.as_str() {
         "replay" if rest.is_empty() => replay_input(),
+        "script" => write_script(Options::read(rest, &["--seed", "--lines"])?),
+        "selftest" => test_itself(Options::read(rest, &["--seed", "--calls"])?),
         "kinds" => kinds(Options::read(rest, &["--seed", "--count"])?),
         "names" => names(Options::read(rest, &["--seed", "--in", "--out"])?),
         _ => Err(Stop::Usage),

@@ -46,7 +46,7 @@ impl Removal {
 }
 
 /// The four removals that hold a record, spelled as it is, from the widest to the narrowest.
-fn removals_of(record: &Record) -> [Removal; 4] {
+pub fn removals_of(record: &Record) -> [Removal; 4] {
     let (rtype, class) = (record.rtype, record.class);
     [
         Scope::AllClasses,
