@@ -32,7 +32,7 @@ impl Generator {
     /// The next call of the run.
     pub fn next(&mut self, server: &Server) -> Call {
         if self.left == 0 {
-            self.theme = *self.random.pick(&[Theme::Sensible, Theme::Sensible, Theme::Damaged, Theme::Limits, Theme::Clocks]);
+            self.theme = *self.random.pick(&[Theme::Sensible, Theme::Sensible, Theme::Sensible, Theme::Damaged, Theme::Limits, Theme::Clocks]);
             self.left = 10 + self.random.below(40);
         }
         self.left -= 1;
@@ -73,8 +73,20 @@ impl Generator {
         }
     }
 
+    /// An open session with fewer than two subscriptions.
+    fn unsubscribed(&self, server: &Server) -> Option<u64> {
+        let few = |session: &Option<Session>| session.as_ref().is_some_and(|session| session.subscriptions.len() < 2);
+        server.sessions.iter().position(few).map(|number| number as u64)
+    }
+
     fn sensible(&mut self, server: &Server) -> Call {
         let time = self.time(server);
+        if let Some(session) = self.unsubscribed(server).filter(|_| self.random.once_in(3)) {
+            let name = self.pool.name(&mut self.random);
+            let id = 20_000 + self.random.below(20_000) as u16;
+            let bytes = craft::subscribe(id, &name, pool::asked_type(&mut self.random), pool::asked_class(&mut self.random));
+            return Call::Message { time, session, bytes };
+        }
         match self.random.below(40) {
             0 => Call::Open { time },
             1 => Call::Close { time, session: self.session(server) },
@@ -120,13 +132,13 @@ impl Generator {
 
     fn limits(&mut self, server: &Server) -> Call {
         let time = server.latest;
-        let session = self.session(server);
+        let busiest = (0..SESSIONS).max_by_key(|number| server.sessions[*number].as_ref().map(|session| session.subscriptions.len()));
+        let session = if self.random.once_in(6) { self.session(server) } else { busiest.unwrap_or(0) as u64 };
         let live = server.sessions.get(session as usize).and_then(Option::as_ref);
-        match self.random.below(8) {
-            0..=2 => Call::Message { time, session, bytes: limits::request(live, &server.zone, &mut self.random) },
-            3..=5 => Call::Batch { time, edits: limits::batch(server, &mut self.random) },
-            6 => Call::Open { time },
-            _ => self.sensible(server),
+        match self.random.below(12) {
+            0..=6 => Call::Message { time, session, bytes: limits::request(live, &server.zone, &mut self.random) },
+            7..=10 => Call::Batch { time, edits: limits::batch(server, &mut self.random) },
+            _ => Call::Open { time },
         }
     }
 

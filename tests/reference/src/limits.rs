@@ -1,7 +1,7 @@
 //! Messages and batches at the limits and one past them.
 
 use crate::craft::{self, edit, stretched};
-use crate::message::MAX_SUBSCRIPTIONS;
+use crate::message::{Question, Subscription, MAX_SUBSCRIPTIONS};
 use crate::pool::below;
 use crate::random::Random;
 use crate::server::{Server, Session};
@@ -9,15 +9,26 @@ use crate::zone::{MAX_EDITS, MAX_RECORDS, TTL_ONE};
 
 /// A message at a limit: most often one more subscription, so that the seventeenth comes.
 pub fn request(session: Option<&Session>, zone: &[u8], random: &mut Random) -> Vec<u8> {
-    let live = session.map_or(0, |session| session.subscriptions.len());
+    let live: &[Subscription] = session.map_or(&[], |session| &session.subscriptions);
     let id = 1_000 + random.below(60_000) as u16;
-    match random.below(12) {
-        0 => craft::subscribe(id, &edge_name(zone, random), 255, 255),
-        1 => craft::reconfirm(&edge_name(zone, random), 1, 1, &vec![3; *random.pick(&[0, 128, 129, 400])]),
-        2 => craft::message(id, craft::REQUEST, &craft::tlv(1, &vec![0; *random.pick(&[7, 8, 9])])),
-        3 => craft::message(0, craft::REQUEST, &craft::tlv(0x42, &vec![0; *random.pick(&[1, 2, 3])])),
-        4 if live >= MAX_SUBSCRIPTIONS => craft::unsubscribe(session.map_or(1, |session| session.subscriptions[0].id)),
-        _ => craft::subscribe(id, &below(zone, &[b"n", &[b'0' + random.below(30) as u8]]), random.below(3) as u16, 1),
+    match random.below(40) {
+        0..=2 => craft::subscribe(id, &edge_name(zone, random), 255, 255),
+        3 => craft::reconfirm(&edge_name(zone, random), 1, 1, &vec![3; *random.pick(&[0, 128, 129, 400])]),
+        4 | 5 => craft::message(id, craft::REQUEST, &craft::tlv(1, &vec![0; *random.pick(&[7, 8, 9])])),
+        6 => craft::message(0, craft::REQUEST, &craft::tlv(0x42, &vec![0; *random.pick(&[1, 2, 3])])),
+        7..=9 if live.len() >= MAX_SUBSCRIPTIONS => craft::unsubscribe(random.pick(live).id),
+        _ => another(live, id, zone, random),
+    }
+}
+
+/// A SUBSCRIBE for what no live subscription asks.
+fn another(live: &[Subscription], id: u16, zone: &[u8], random: &mut Random) -> Vec<u8> {
+    loop {
+        let name = below(zone, &[b"n", &[b'0' + random.below(10) as u8]]);
+        let question = Question { name, rtype: random.below(3) as u16, class: 1 };
+        if !live.iter().any(|subscription| subscription.question.same(&question)) {
+            return craft::subscribe(id, &question.name, question.rtype, question.class);
+        }
     }
 }
 
@@ -57,7 +68,7 @@ fn puts(zone: &[u8], count: usize, random: &mut Random) -> Vec<u8> {
         let mut rdata = random.bytes(4);
         rdata.resize(4.max(size), 6);
         let long = zone.len() < 254 && random.once_in(3);
-        let name = if long { stretched(zone, 255, b'n') } else { below(zone, &[b"n", &[b'0' + random.below(30) as u8]]) };
+        let name = if long { stretched(zone, 255, b'n') } else { below(zone, &[b"n", &[b'0' + random.below(10) as u8]]) };
         edit(&name, 1 + random.below(2) as u16, 1, 120, &rdata)
     };
     (0..count).flat_map(|_| one(random)).collect()

@@ -70,7 +70,7 @@ pub fn record_type(random: &mut Random) -> u16 {
 }
 
 pub fn asked_type(random: &mut Random) -> u16 {
-    if random.once_in(3) {
+    if random.once_in(2) {
         255
     } else {
         *random.pick(&[1, 16, 28, 33, 5, 0, 0xffff])
@@ -82,7 +82,7 @@ pub fn record_class(random: &mut Random) -> u16 {
 }
 
 pub fn asked_class(random: &mut Random) -> u16 {
-    *random.pick(&[1, 1, 1, 3, 255, 255, 0])
+    *random.pick(&[1, 1, 1, 3, 255, 255, 255, 0])
 }
 
 pub fn ttl(random: &mut Random) -> u32 {

@@ -18,6 +18,8 @@ const CALLS_PER_RUN: u64 = 300;
 pub struct Counts {
     pub calls: u64,
     pub answers: BTreeMap<u32, u64>,
+    /// Replies by RCODE.
+    pub replies: BTreeMap<u8, u64>,
     pub pushes: u64,
     pub adds: u64,
     pub singles: u64,
@@ -205,6 +207,9 @@ impl Counts {
         *self.answers.entry(outcome.answer.number()).or_default() += 1;
         self.pushes += pushes.len() as u64;
         for bytes in outcome.output.iter().filter(|bytes| bytes.len() > 2) {
+            if bytes[4] & 0x80 != 0 {
+                *self.replies.entry(bytes[5] & 15).or_default() += 1;
+            }
             for change in read_push(&bytes[2..]).unwrap_or_default() {
                 *self.counter(&change) += 1;
             }
@@ -225,10 +230,12 @@ impl Counts {
 
     pub fn report(&self) -> String {
         let answers: Vec<String> = self.answers.iter().map(|(answer, count)| format!("{answer}: {count}")).collect();
+        let replies: Vec<String> = self.replies.iter().map(|(code, count)| format!("{code}: {count}")).collect();
         format!(
-            "calls {}\nanswers {}\nPUSHes {}\nafter batches: adds {}, removals of one record {}, of an RRset {}, of all types {}, of all classes {}\nlists searched for a shorter one {}\n",
+            "calls {}\nanswers {}\nreplies by RCODE {}\nPUSHes {}\nafter batches: adds {}, removals of one record {}, of an RRset {}, of all types {}, of all classes {}\nlists searched for a shorter one {}\n",
             self.calls,
             answers.join(", "),
+            replies.join(", "),
             self.pushes,
             self.adds,
             self.singles,
