@@ -14,7 +14,12 @@ pub struct Key {
 
 impl Key {
     pub fn of(notice: &Notice) -> Key {
-        Key { name: notice.name.to_ascii_lowercase(), class: notice.class, rtype: notice.rtype, rdata: notice.rdata.clone() }
+        Key {
+            name: notice.name.to_ascii_lowercase(),
+            class: notice.class,
+            rtype: notice.rtype,
+            rdata: notice.rdata.clone(),
+        }
     }
 }
 
@@ -133,7 +138,11 @@ pub fn expected(client: &Client, old: &[Entry], new: &[Entry]) -> Vec<Notice> {
         }
     }
     let mut list: Vec<Notice> = groups.iter().map(|(mark, members)| removal(mark.3.is_some(), members)).collect();
-    list.extend(new.iter().filter(|entry| client.sees(&entry.key) && before.get(&entry.key) != Some(&entry.ttl)).map(Entry::add));
+    list.extend(
+        new.iter()
+            .filter(|entry| client.sees(&entry.key) && before.get(&entry.key) != Some(&entry.ttl))
+            .map(Entry::add),
+    );
     list
 }
 

@@ -17,7 +17,11 @@ pub enum Call {
 impl Call {
     pub fn time(&self) -> u64 {
         match self {
-            Call::Open { time } | Call::Close { time, .. } | Call::Message { time, .. } | Call::Batch { time, .. } | Call::Tick { time } => *time,
+            Call::Open { time }
+            | Call::Close { time, .. }
+            | Call::Message { time, .. }
+            | Call::Batch { time, .. }
+            | Call::Tick { time } => *time,
         }
     }
 

@@ -38,7 +38,10 @@ pub fn stretched(below: &[u8], total: usize, fill: u8) -> Vec<u8> {
 
 /// The same octets with letters turned to either case at random.
 pub fn respelled(octets: &[u8], random: &mut Random) -> Vec<u8> {
-    octets.iter().map(|octet| if octet.is_ascii_alphabetic() && random.once_in(2) { octet ^ 0x20 } else { *octet }).collect()
+    octets
+        .iter()
+        .map(|octet| if octet.is_ascii_alphabetic() && random.once_in(2) { octet ^ 0x20 } else { *octet })
+        .collect()
 }
 
 pub fn tlv(tlv_type: u16, data: &[u8]) -> Vec<u8> {

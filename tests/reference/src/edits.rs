@@ -21,9 +21,12 @@ pub fn sensible(server: &Server, pool: &Pool, random: &mut Random) -> Vec<u8> {
         match choice {
             0 => batch.extend(delete(&record, random)),
             1 => batch.extend(delete_like(server, random, |other| other.name.eq_ignore_ascii_case(&record.name))),
-            2 => batch.extend(delete_like(server, random, |other| other.name.eq_ignore_ascii_case(&record.name) && other.class == record.class)),
+            2 => batch.extend(delete_like(server, random, |other| {
+                other.name.eq_ignore_ascii_case(&record.name) && other.class == record.class
+            })),
             3 => batch.extend(delete_like(server, random, |other| {
-                other.name.eq_ignore_ascii_case(&record.name) && (other.class, other.rtype) == (record.class, record.rtype)
+                other.name.eq_ignore_ascii_case(&record.name)
+                    && (other.class, other.rtype) == (record.class, record.rtype)
             })),
             4 => batch.extend(alter(&record, record.ttl, random)),
             5 => batch.extend([delete(&record, random), alter(&record, record.ttl, random)].concat()),

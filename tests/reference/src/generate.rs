@@ -32,7 +32,14 @@ impl Generator {
     /// The next call of the run.
     pub fn next(&mut self, server: &Server) -> Call {
         if self.left == 0 {
-            self.theme = *self.random.pick(&[Theme::Sensible, Theme::Sensible, Theme::Sensible, Theme::Damaged, Theme::Limits, Theme::Clocks]);
+            self.theme = *self.random.pick(&[
+                Theme::Sensible,
+                Theme::Sensible,
+                Theme::Sensible,
+                Theme::Damaged,
+                Theme::Limits,
+                Theme::Clocks,
+            ]);
             self.left = 10 + self.random.below(40);
         }
         self.left -= 1;
@@ -54,17 +61,18 @@ impl Generator {
         let random = &mut self.random;
         match random.below(60) {
             0 => latest.saturating_sub(1),
-            1 => latest.saturating_sub(random.next() % 100_000),
-            2 => random.next() % (latest / 2 + 1),
+            1 => latest.saturating_sub(random.number() % 100_000),
+            2 => random.number() % (latest / 2 + 1),
             3..=25 => latest,
             26 => latest.saturating_add(29_999),
-            _ => latest.saturating_add(random.next() % 900),
+            _ => latest.saturating_add(random.number() % 900),
         }
     }
 
     /// A session number, mostly of an open session.
     fn session(&mut self, server: &Server) -> u64 {
-        let open: Vec<u64> = (0..SESSIONS).filter(|number| server.sessions[*number].is_some()).map(|number| number as u64).collect();
+        let open: Vec<u64> =
+            (0..SESSIONS).filter(|number| server.sessions[*number].is_some()).map(|number| number as u64).collect();
         match self.random.below(40) {
             0 => self.random.below(6) as u64,
             1 => *self.random.pick(&[4, 255, 256, 1 << 32, u64::MAX]),
@@ -84,7 +92,8 @@ impl Generator {
         if let Some(session) = self.unsubscribed(server).filter(|_| self.random.once_in(3)) {
             let name = self.pool.name(&mut self.random);
             let id = 20_000 + self.random.below(20_000) as u16;
-            let bytes = craft::subscribe(id, &name, pool::asked_type(&mut self.random), pool::asked_class(&mut self.random));
+            let bytes =
+                craft::subscribe(id, &name, pool::asked_type(&mut self.random), pool::asked_class(&mut self.random));
             return Call::Message { time, session, bytes };
         }
         match self.random.below(40) {
@@ -102,7 +111,8 @@ impl Generator {
 
     /// A message that a client might well send.
     fn request(&mut self, session: Option<&Session>) -> Vec<u8> {
-        let held: Vec<u16> = session.map_or(Vec::new(), |session| session.subscriptions.iter().map(|subscription| subscription.id).collect());
+        let held: Vec<u16> = session
+            .map_or(Vec::new(), |session| session.subscriptions.iter().map(|subscription| subscription.id).collect());
         let random = &mut self.random;
         let id = message_id(&held, random);
         match random.below(24) {
@@ -112,11 +122,16 @@ impl Generator {
             }
             12..=16 if !held.is_empty() => craft::unsubscribe(*random.pick(&held)),
             12..=17 => craft::unsubscribe(random.below(12) as u16),
-            18..=20 => craft::keepalive(id, random.next() as u32, random.next() as u32),
-            21 => craft::reconfirm(&self.pool.any_name(random), pool::asked_type(random), pool::asked_class(random), &pool::rdata(random)),
+            18..=20 => craft::keepalive(id, random.number() as u32, random.number() as u32),
+            21 => craft::reconfirm(
+                &self.pool.any_name(random),
+                pool::asked_type(random),
+                pool::asked_class(random),
+                &pool::rdata(random),
+            ),
             22 => craft::message(id, craft::REQUEST, &craft::tlv(random.below(0x50) as u16, &[0; 3])),
             _ if random.once_in(2) => again(session, id, random).unwrap_or_default(),
-            _ => craft::message(id, (random.next() as u16) & 0x7fff, &[]),
+            _ => craft::message(id, (random.number() as u16) & 0x7fff, &[]),
         }
     }
 
@@ -132,7 +147,8 @@ impl Generator {
 
     fn limits(&mut self, server: &Server) -> Call {
         let time = server.latest;
-        let busiest = (0..SESSIONS).max_by_key(|number| server.sessions[*number].as_ref().map(|session| session.subscriptions.len()));
+        let busiest = (0..SESSIONS)
+            .max_by_key(|number| server.sessions[*number].as_ref().map(|session| session.subscriptions.len()));
         let session = if self.random.once_in(6) { self.session(server) } else { busiest.unwrap_or(0) as u64 };
         let live = server.sessions.get(session as usize).and_then(Option::as_ref);
         match self.random.below(12) {
@@ -147,11 +163,19 @@ impl Generator {
         let mut edges: Vec<u64> = Vec::new();
         for session in server.sessions.iter().flatten() {
             let clocks = &session.clocks;
-            for limit in [clocks.keepalive_start.saturating_add(2 * u64::from(clocks.interval)), clocks.inactivity_start.saturating_add(30_000)] {
-                edges.extend([limit.saturating_sub(1), limit, limit.saturating_add(1)].iter().filter(|edge| **edge >= server.latest));
+            for limit in [
+                clocks.keepalive_start.saturating_add(2 * u64::from(clocks.interval)),
+                clocks.inactivity_start.saturating_add(30_000),
+            ] {
+                edges.extend(
+                    [limit.saturating_sub(1), limit, limit.saturating_add(1)]
+                        .iter()
+                        .filter(|edge| **edge >= server.latest),
+                );
             }
         }
-        let time = if edges.is_empty() || self.random.once_in(4) { self.time(server) } else { *self.random.pick(&edges) };
+        let time =
+            if edges.is_empty() || self.random.once_in(4) { self.time(server) } else { *self.random.pick(&edges) };
         let session = self.session(server);
         match self.random.below(10) {
             0..=4 => Call::Tick { time },

@@ -12,7 +12,7 @@ pub fn write(bytes: &[u8]) -> String {
 
 /// The bytes of lowercase hexadecimal text; `None` for an odd count of digits or any other character.
 pub fn read(text: &[u8]) -> Option<Vec<u8>> {
-    if text.len() % 2 != 0 {
+    if text.len() % 2 == 1 {
         return None;
     }
     text.chunks(2).map(|pair| Some(digit(pair[0])? << 4 | digit(pair[1])?)).collect()

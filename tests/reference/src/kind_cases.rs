@@ -73,7 +73,8 @@ fn flags(messages: &mut Vec<Vec<u8>>, random: &mut Random) {
 }
 
 fn types(messages: &mut Vec<Vec<u8>>, random: &mut Random) {
-    let edges = [0x00ff, 0x0100, 0x0101, 0x0102, 0x0140, 0x0142, 0x0143, 0x3fff, 0x4000, 0x4040, 0x4100, 0x4200, 0x4300];
+    let edges =
+        [0x00ff, 0x0100, 0x0101, 0x0102, 0x0140, 0x0142, 0x0143, 0x3fff, 0x4000, 0x4040, 0x4100, 0x4200, 0x4300];
     let high = [0x7fff, 0x8000, 0x8001, 0xf7ff, 0xf800, 0xfbff, 0xfc00, 0xff40, 0xfffe, 0xffff];
     for tlv_type in (0..=0x50).chain(edges).chain(high) {
         for id in [0, 1, 0xffff] {
@@ -143,7 +144,7 @@ fn frames(messages: &mut Vec<Vec<u8>>) {
             }
             for at in 4..12 {
                 let mut other = bytes.clone();
-                other[at] = if at % 2 == 0 { 0x80 } else { 1 };
+                other[at] = if at % 2 == 1 { 1 } else { 0x80 };
                 messages.push(other);
             }
         }

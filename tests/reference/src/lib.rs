@@ -22,4 +22,5 @@ pub mod script;
 pub mod selftest;
 pub mod server;
 pub mod shorter;
+pub mod timing;
 pub mod zone;

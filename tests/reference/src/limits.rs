@@ -68,20 +68,32 @@ fn puts(zone: &[u8], count: usize, random: &mut Random) -> Vec<u8> {
         let mut rdata = random.bytes(4);
         rdata.resize(4.max(size), 6);
         let long = zone.len() < 254 && random.once_in(3);
-        let name = if long { stretched(zone, 255, b'n') } else { below(zone, &[b"n", &[b'0' + random.below(10) as u8]]) };
+        let name =
+            if long { stretched(zone, 255, b'n') } else { below(zone, &[b"n", &[b'0' + random.below(10) as u8]]) };
         edit(&name, 1 + random.below(2) as u16, 1, 120, &rdata)
     };
     (0..count).flat_map(|_| one(random)).collect()
 }
 
 fn deletes(server: &Server, count: usize) -> Vec<u8> {
-    server.records.iter().take(count).flat_map(|record| edit(&record.name, record.rtype, record.class, TTL_ONE, &record.rdata)).collect()
+    server
+        .records
+        .iter()
+        .take(count)
+        .flat_map(|record| edit(&record.name, record.rtype, record.class, TTL_ONE, &record.rdata))
+        .collect()
 }
 
 /// An edit with values around those that are not allowed.
 fn edge_values(zone: &[u8], random: &mut Random) -> Vec<u8> {
     let ttl = *random.pick(&[0x7fff_ffff, 0x8000_0000, 0xffff_fffd, 0xffff_fffe, 0xffff_ffff, 120]);
-    let field = |random: &mut Random| if random.once_in(3) { *random.pick(&[0, 254, 255, 256, 0xffff]) } else { 1 };
+    let field = |random: &mut Random| {
+        if random.once_in(3) {
+            *random.pick(&[0, 254, 255, 256, 0xffff])
+        } else {
+            1
+        }
+    };
     let (rtype, class) = (field(random), field(random));
     edit(&below(zone, &[b"v"]), rtype, class, ttl, &[1, 2])
 }

@@ -27,7 +27,9 @@ impl Options {
     fn read(arguments: &[String], allowed: &[&str]) -> Result<Options, Stop> {
         let mut found = HashMap::new();
         for pair in arguments.chunks(2) {
-            let [option, value] = pair else { return Err(Stop::Usage) };
+            let [option, value] = pair else {
+                return Err(Stop::Usage);
+            };
             if !allowed.contains(&option.as_str()) || found.insert(option.clone(), value.clone()).is_some() {
                 return Err(Stop::Usage);
             }

@@ -181,7 +181,9 @@ fn unsubscribe(data: &[u8]) -> Verdict {
 }
 
 fn reconfirm(data: &[u8], start: usize) -> Verdict {
-    let Some(end) = name::read(data, 0) else { return Verdict::Abort };
+    let Some(end) = name::read(data, 0) else {
+        return Verdict::Abort;
+    };
     if data.len() < end + 4 || be16(data, end) == ANY || be16(data, end + 2) == ANY {
         return Verdict::Abort;
     }

@@ -54,7 +54,7 @@ pub fn cases(seed: u64) -> Cases {
 
 /// Names of exactly so many octets, cut into labels in several ways.
 fn of_length(total: usize) -> Vec<Vec<u8>> {
-    let mut ones = if total % 2 == 0 { name(&[b"ab"]) } else { vec![0] };
+    let mut ones = if total % 2 == 1 { vec![0] } else { name(&[b"ab"]) };
     while ones.len() < total {
         ones.splice(0..0, [1, b'x']);
     }
@@ -135,14 +135,25 @@ fn same_octets(cases: &mut Cases) {
             cases.same(&name(&[&[b'x', octet]]), &name(&[&[b'x', octet | 0x20]]));
         }
     }
-    for (left, right) in [(b'0', b'1'), (b'a', b'b'), (b'A', b'b'), (b'a', 0xe1), (b'A', 0xc1), (b'z', 0x7b), (b'A', b'@')] {
+    for (left, right) in
+        [(b'0', b'1'), (b'a', b'b'), (b'A', b'b'), (b'a', 0xe1), (b'A', 0xc1), (b'z', 0x7b), (b'A', b'@')]
+    {
         cases.same(&name(&[&[left]]), &name(&[&[right]]));
     }
 }
 
 fn same_shapes(cases: &mut Cases, random: &mut Random) {
     let good = dotted("a.shop.example");
-    for other in ["a.shop.example", "A.SHOP.EXAMPLE", "a.Shop.exAmple", "shop.example", "b.shop.example", "a.shop.examples", "ashop.example", ""] {
+    for other in [
+        "a.shop.example",
+        "A.SHOP.EXAMPLE",
+        "a.Shop.exAmple",
+        "shop.example",
+        "b.shop.example",
+        "a.shop.examples",
+        "ashop.example",
+        "",
+    ] {
         cases.same(&good, &dotted(other));
         cases.same(&dotted(other), &good);
     }
@@ -180,14 +191,25 @@ fn within_shapes(cases: &mut Cases) {
     let zone = dotted("shop.example");
     let swallowed = name(&[b"\x04shop\x07example\x00"]);
     let swallowed_too = name(&[b"x\x04shop\x07example"]);
-    for below in ["shop.example", "a.shop.example", "b.a.shop.example", "SHOP.example", "x.SHOP.EXAMPLE", "*.shop.example"] {
+    for below in
+        ["shop.example", "a.shop.example", "b.a.shop.example", "SHOP.example", "x.SHOP.EXAMPLE", "*.shop.example"]
+    {
         cases.within(&zone, &dotted(below));
         cases.within(&dotted(below), &zone);
         cases.within(&dotted("Shop.exAMPLE"), &dotted(below));
         cases.within(&[0], &dotted(below));
         cases.within(&dotted(below), &[0]);
     }
-    for outside in ["a.xshop.example", "xshop.example", "example", "", "shop.examples", "shop.example.a", "a.shop.exampl", "ashop.example"] {
+    for outside in [
+        "a.xshop.example",
+        "xshop.example",
+        "example",
+        "",
+        "shop.examples",
+        "shop.example.a",
+        "a.shop.exampl",
+        "ashop.example",
+    ] {
         cases.within(&zone, &dotted(outside));
         cases.within(&dotted(outside), &zone);
         cases.within(&[0], &dotted(outside));

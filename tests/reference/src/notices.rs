@@ -34,7 +34,9 @@ impl Removal {
             Scope::AllClasses => true,
             Scope::AllTypes { class } => *class == record.class,
             Scope::Rrset { rtype, class } => (*rtype, *class) == (record.rtype, record.class),
-            Scope::Single { rtype, class, rdata } => (*rtype, *class, rdata) == (record.rtype, record.class, &record.rdata),
+            Scope::Single { rtype, class, rdata } => {
+                (*rtype, *class, rdata) == (record.rtype, record.class, &record.rdata)
+            }
         };
         inside && name::same(&self.name, &record.name)
     }
@@ -62,7 +64,10 @@ pub fn removals_of(record: &Record) -> [Removal; 4] {
 fn removal_for(record: &Record, leaving: &[&Record], new_records: &[Record]) -> Removal {
     let covered = |removal: &Removal| leaving.iter().map(|other| removal.covers(other)).collect::<Vec<_>>();
     let candidates = removals_of(record);
-    let widest = candidates.iter().find(|removal| removal.is_true(new_records)).expect("a record that left is covered by its own removal");
+    let widest = candidates
+        .iter()
+        .find(|removal| removal.is_true(new_records))
+        .expect("a record that left is covered by its own removal");
     if matches!(widest.scope, Scope::Single { .. }) {
         return widest.clone();
     }
@@ -126,7 +131,9 @@ pub fn push(changes: &[Change]) -> Vec<u8> {
 pub fn read_push(message: &[u8]) -> Option<Vec<Change>> {
     let data = message.get(HEADER + TLV_HEADER..)?;
     let header = [0, 0, OPCODE_DSO << 3, 0, 0, 0, 0, 0, 0, 0, 0, 0];
-    let framed = message[..HEADER] == header && be16(message, HEADER) == PUSH && usize::from(be16(message, HEADER + 2)) == data.len();
+    let framed = message[..HEADER] == header
+        && be16(message, HEADER) == PUSH
+        && usize::from(be16(message, HEADER + 2)) == data.len();
     if !framed || data.is_empty() {
         return None;
     }

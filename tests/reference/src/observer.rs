@@ -61,14 +61,22 @@ impl Observer {
             (Call::Open { .. }, 1) => self.note_open(outcome.opened),
             (Call::Close { session, .. }, 1) => self.end(*session),
             (Call::Message { session, .. }, 4) => self.end(*session),
-            (Call::Tick { .. }, 1) => (0..SESSIONS).filter(|number| outcome.ended[*number]).try_for_each(|number| self.end(number as u64)),
-            (Call::Batch { edits, .. }, 1 | 2) => {
-                notices(edits)?.iter().for_each(|each| edit(&mut self.store, each));
-                Ok(())
+            (Call::Tick { .. }, 1) => {
+                (0..SESSIONS).filter(|number| outcome.ended[*number]).try_for_each(|number| self.end(number as u64))
             }
+            (Call::Batch { edits, .. }, 1 | 2) => self.note_batch(edits),
             (Call::Message { session, bytes, .. }, 2) => self.note_reply(*session, bytes, written),
             (Call::Message { session, bytes, .. }, 1) => self.note_unsubscribe(*session, bytes),
             _ => Ok(()),
+        }
+    }
+
+    fn note_batch(&mut self, edits: &[u8]) -> Result<(), String> {
+        let list = notices(edits)?;
+        list.iter().for_each(|each| edit(&mut self.store, each));
+        match list.len() <= 32 && self.store.len() <= 40 {
+            true => Ok(()),
+            false => Err(format!("{} edits were taken, {} records are held", list.len(), self.store.len())),
         }
     }
 
@@ -100,16 +108,26 @@ impl Observer {
     fn note_reply(&mut self, session: u64, message: &[u8], written: &[(usize, Frame)]) -> Result<(), String> {
         let store = self.store.clone();
         let client = self.living(session)?;
-        let [(_, Frame::Reply(reply)), pushes @ ..] = written else { return Err("no reply stands first".to_string()) };
+        let [(_, Frame::Reply(reply)), pushes @ ..] = written else {
+            return Err("no reply stands first".to_string());
+        };
         if written.iter().any(|(number, _)| *number as u64 != session) {
             return Err("a message wrote to another session".to_string());
         }
         check_reply(reply, message)?;
+        if reply.rcode == 0 && client.subscriptions.iter().any(|asked| asked.id == reply.id) {
+            return Err(format!("ID {} is held by a subscription and was taken again", reply.id));
+        }
         if reply.rcode != 0 || first_tlv(message)?.0 != 0x0040 {
-            return if pushes.is_empty() { Ok(()) } else { Err("a PUSH after a reply that starts nothing".to_string()) };
+            return if pushes.is_empty() {
+                Ok(())
+            } else {
+                Err("a PUSH after a reply that starts nothing".to_string())
+            };
         }
         let mut data = Rest(first_tlv(message)?.1);
         let asked = Asked { id: reply.id, name: data.name()?, rtype: data.short()?, class: data.short()? };
+        check_room(client, &asked)?;
         let initial: Vec<Notice> = store.iter().filter(|entry| asked.matches(&entry.key)).map(Entry::add).collect();
         client.subscriptions.push(asked);
         match pushes {
@@ -127,12 +145,14 @@ impl Observer {
         for (number, client) in before.clients.iter().enumerate() {
             let Some(client) = client else { continue };
             let due = expected(client, &before.store, &self.store);
-            let sent: Vec<&Vec<Notice>> = pushes.iter().filter(|(session, _)| *session == number).map(|(_, list)| list).collect();
+            let sent: Vec<&Vec<Notice>> =
+                pushes.iter().filter(|(session, _)| *session == number).map(|(_, list)| list).collect();
             let agrees = if due.is_empty() { sent.is_empty() } else { sent == [&due] };
             if !agrees {
                 return Err(format!("session {number}: {due:?} was due, {sent:?} came"));
             }
-            let untrue = |notice: &&Notice| !notice.is_add() && self.store.iter().any(|entry| covers(notice, &entry.key));
+            let untrue =
+                |notice: &&Notice| !notice.is_add() && self.store.iter().any(|entry| covers(notice, &entry.key));
             if let Some(notice) = due.iter().find(untrue) {
                 return Err(format!("session {number}: a removal that covers a record that stays: {notice:?}"));
             }
@@ -182,6 +202,17 @@ fn first_tlv(message: &[u8]) -> Result<(u16, &[u8]), String> {
     let tlv_type = rest.short()?;
     let length = rest.short()?;
     Ok((tlv_type, rest.take(usize::from(length))?))
+}
+
+/// An accepted SUBSCRIBE finds fewer than sixteen subscriptions, none of them for the same.
+fn check_room(client: &Client, asked: &Asked) -> Result<(), String> {
+    let same = |other: &Asked| {
+        other.name.eq_ignore_ascii_case(&asked.name) && (other.rtype, other.class) == (asked.rtype, asked.class)
+    };
+    match client.subscriptions.len() < 16 && !client.subscriptions.iter().any(same) {
+        true => Ok(()),
+        false => Err(format!("{asked:?} was taken beside {:?}", client.subscriptions)),
+    }
 }
 
 /// A reply carries the request's ID and, by its RCODE and the request, just the TLV that is due.

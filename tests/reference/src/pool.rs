@@ -21,12 +21,13 @@ pub fn below(zone: &[u8], labels: &[&[u8]]) -> Vec<u8> {
 impl Pool {
     pub fn new(zone: &[u8]) -> Pool {
         let fits = |octets: &Vec<u8>| octets.len() <= 255;
-        let mut inside: Vec<Vec<u8>> = [&[&b"a"[..]][..], &[b"b"], &[], &[b"*"], &[b"b", b"a"], &[b"_http", b"_tcp"], &[b"\x01a"], &[b"a0"]]
-            .iter()
-            .map(|labels| below(zone, labels))
-            .chain([below(zone, &[&[b'n'; 63]]), stretched(zone, 254, b'w'), stretched(zone, 255, b'v')])
-            .filter(fits)
-            .collect();
+        let mut inside: Vec<Vec<u8>> =
+            [&[&b"a"[..]][..], &[b"b"], &[], &[b"*"], &[b"b", b"a"], &[b"_http", b"_tcp"], &[b"\x01a"], &[b"a0"]]
+                .iter()
+                .map(|labels| below(zone, labels))
+                .chain([below(zone, &[&[b'n'; 63]]), stretched(zone, 254, b'w'), stretched(zone, 255, b'v')])
+                .filter(fits)
+                .collect();
         if inside.is_empty() {
             inside.push(zone.to_vec());
         }

@@ -100,16 +100,24 @@ pub fn frames(bytes: &[u8]) -> Result<Vec<Frame>, String> {
     Ok(list)
 }
 
-fn frame(message: &[u8]) -> Result<Frame, String> {
+/// The TLVs of a DSO message with counts of zero that they fill to its end.
+pub fn tlvs_of(message: &[u8]) -> Result<Vec<(u16, Vec<u8>)>, String> {
     let mut rest = Rest(message);
-    let (id, flags, counts) = (rest.short()?, rest.short()?, rest.number(8)?);
+    let (_, flags, counts) = (rest.short()?, rest.short()?, rest.number(8)?);
+    if flags & 0x7800 != 0x3000 || counts != 0 {
+        return Err("another opcode, or counts that are not zero".to_string());
+    }
     let mut tlvs = Vec::new();
     while !rest.0.is_empty() {
         tlvs.push(rest.tlv()?);
     }
-    if counts != 0 {
-        return Err("counts that are not zero".to_string());
-    }
+    Ok(tlvs)
+}
+
+fn frame(message: &[u8]) -> Result<Frame, String> {
+    let tlvs = tlvs_of(message)?;
+    let mut rest = Rest(message);
+    let (id, flags) = (rest.short()?, rest.short()?);
     match flags & 0xfff0 {
         0xb000 if id != 0 => Ok(Frame::Reply(Reply { id, rcode: (flags & 15) as u8, tlvs })),
         0x3000 => push(id, flags, message.len(), &tlvs),
@@ -118,7 +126,9 @@ fn frame(message: &[u8]) -> Result<Frame, String> {
 }
 
 fn push(id: u16, flags: u16, length: usize, tlvs: &[(u16, Vec<u8>)]) -> Result<Frame, String> {
-    let [(0x0041, data)] = tlvs else { return Err("a message that is neither reply nor PUSH".to_string()) };
+    let [(0x0041, data)] = tlvs else {
+        return Err("a message that is neither reply nor PUSH".to_string());
+    };
     if id != 0 || flags != 0x3000 || data.is_empty() || length > 16_382 {
         return Err(format!("a PUSH with ID {id}, flags {flags:04x} and {length} bytes"));
     }

@@ -42,7 +42,9 @@ pub fn read_line(line: &[u8]) -> Option<Call> {
     Some(match fields[..] {
         [b"open", time] => Call::Open { time: number(time)? },
         [b"close", time, session] => Call::Close { time: number(time)?, session: number(session)? },
-        [b"msg", time, session, bytes] => Call::Message { time: number(time)?, session: number(session)?, bytes: hex::read(bytes)? },
+        [b"msg", time, session, bytes] => {
+            Call::Message { time: number(time)?, session: number(session)?, bytes: hex::read(bytes)? }
+        }
         [b"batch", time, edits] => Call::Batch { time: number(time)?, edits: hex::read(edits)? },
         [b"tick", time] => Call::Tick { time: number(time)? },
         _ => return None,
@@ -63,7 +65,9 @@ pub fn write_line(call: &Call) -> String {
     match call {
         Call::Open { .. } | Call::Tick { .. } => format!("{verb}\t{time}"),
         Call::Close { session, .. } => format!("{verb}\t{time}\t{session}"),
-        Call::Message { session, bytes, .. } => format!("{verb}\t{time}\t{session}\t{}", hex::write(bytes)),
+        Call::Message { session, bytes, .. } => {
+            format!("{verb}\t{time}\t{session}\t{}", hex::write(bytes))
+        }
         Call::Batch { edits, .. } => format!("{verb}\t{time}\t{}", hex::write(edits)),
     }
 }

@@ -27,7 +27,8 @@ pub fn script(seed: u64, lines: usize) -> Vec<u8> {
             server.call(&call);
         }
     }
-    if seed % 2 == 0 {
+    let odd = seed % 2 == 1;
+    if !odd {
         text.push(b'\n');
     }
     text
@@ -45,7 +46,7 @@ fn next_line(generator: &mut Generator, server: &Server, left: usize) -> Vec<u8>
         return long_line(server, MAX_LINE - 1 + over);
     }
     let line = write_line(&generator.next(server)).into_bytes();
-    if generator.random.once_in(40) {
+    if left > 1 && generator.random.once_in(40) {
         spoiled(line, &mut generator.random)
     } else {
         line
@@ -55,7 +56,7 @@ fn next_line(generator: &mut Generator, server: &Server, left: usize) -> Vec<u8>
 /// A message line of just so many bytes that is well formed but for its length.
 fn long_line(server: &Server, length: usize) -> Vec<u8> {
     let head = |session: u64| write_line(&Call::Message { time: server.latest, session, bytes: Vec::new() }).len();
-    let session = if (length - head(0)) % 2 == 0 { 0 } else { 10 };
+    let session = if (length - head(0)) % 2 == 1 { 10 } else { 0 };
     let room = (length - head(session)) / 2;
     let bytes = craft::message(5, craft::REQUEST, &craft::tlv(0x30, &vec![0xa5; room - 16]));
     write_line(&Call::Message { time: server.latest, session, bytes }).into_bytes()

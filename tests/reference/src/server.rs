@@ -1,7 +1,9 @@
 //! The server: four sessions, their subscriptions and clocks, and one zone's records.
 
 use crate::call::{Answer, Call, Outcome, Refusal, SESSIONS};
-use crate::message::{self, judge_in_session, ErrorCode, Judgment, Question, Subscription, Verdict, KEEPALIVE, MAX_MESSAGE, RETRY_DELAY};
+use crate::message::{
+    self, judge_in_session, ErrorCode, Judgment, Question, Subscription, Verdict, KEEPALIVE, MAX_MESSAGE, RETRY_DELAY,
+};
 use crate::notices::{changes, push, Change};
 use crate::zone::{self, Fault, Record};
 use crate::{craft, name};
@@ -116,13 +118,17 @@ impl Server {
     }
 
     fn close(&mut self, session: u64) -> Outcome {
-        let Some(number) = self.find(session) else { return Outcome::refused(Refusal::NoSession) };
+        let Some(number) = self.find(session) else {
+            return Outcome::refused(Refusal::NoSession);
+        };
         self.sessions[number] = None;
         Outcome::of(Answer::Done)
     }
 
     fn message(&mut self, time: u64, session: u64, bytes: &[u8]) -> Outcome {
-        let Some(number) = self.find(session) else { return Outcome::refused(Refusal::NoSession) };
+        let Some(number) = self.find(session) else {
+            return Outcome::refused(Refusal::NoSession);
+        };
         if bytes.len() > MAX_MESSAGE {
             return Outcome::refused(Refusal::LongMessage);
         }
@@ -211,7 +217,8 @@ fn grant(session: &mut Session, id: u16) -> Vec<u8> {
 }
 
 fn subscribe(session: &mut Session, records: &[Record], id: u16, question: Question) -> Vec<u8> {
-    let initial: Vec<Change> = records.iter().filter(|record| zone::matches(&question, record)).cloned().map(Change::Add).collect();
+    let initial: Vec<Change> =
+        records.iter().filter(|record| zone::matches(&question, record)).cloned().map(Change::Add).collect();
     session.subscriptions.push(Subscription { id, question });
     let mut output = prefixed(&craft::message(id, REPLY, &[]));
     if !initial.is_empty() {

@@ -71,7 +71,10 @@ fn moves(records: &[Record], ttls: &[[u32; CHOICES - 1]], new_records: &[Record]
         for (choice, ttl) in ttls[at].iter().enumerate() {
             let first = ttls[at].iter().position(|other| other == ttl) == Some(choice);
             if first {
-                moves.push(Move { bytes: size(&Change::Add(record.clone())), effect: Effect::Set { record: at, choice: choice + 1 } });
+                moves.push(Move {
+                    bytes: size(&Change::Add(record.clone())),
+                    effect: Effect::Set { record: at, choice: choice + 1 },
+                });
             }
         }
         for removal in removals_of(record).into_iter().filter(|removal| removal.is_true(new_records)) {

@@ -25,7 +25,10 @@ pub struct Record {
 impl Record {
     /// Whether both are the same record: name, type, class and RDATA; spelling and TTL aside.
     pub fn same(&self, other: &Record) -> bool {
-        self.rtype == other.rtype && self.class == other.class && self.rdata == other.rdata && name::same(&self.name, &other.name)
+        self.rtype == other.rtype
+            && self.class == other.class
+            && self.rdata == other.rdata
+            && name::same(&self.name, &other.name)
     }
 }
 

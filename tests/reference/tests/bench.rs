@@ -82,7 +82,10 @@ fn example_6_srv_and_txt_leave_and_nothing_remains() {
     send(&mut server, 0, 0, &subscribe(1, &a_name(), ANY, ANY));
     let outcome = batch(&mut server, 0, &[a_edit(TXT, DELETE, &[2]), a_edit(SRV, DELETE, &[1])]);
     assert_eq!(pushed(&outcome), [removal(Scope::AllTypes { class: 1 })]);
-    assert_eq!(hex::write(&outcome.output[0]), "002a0000300000000000000000000041001a01610473686f70076578616d706c650000ff0001fffffffe0000");
+    assert_eq!(
+        hex::write(&outcome.output[0]),
+        "002a0000300000000000000000000041001a01610473686f70076578616d706c650000ff0001fffffffe0000"
+    );
 }
 
 #[test]
@@ -92,7 +95,10 @@ fn example_7_the_same_with_a_kept() {
     batch(&mut server, 0, &[a_edit(SRV, PUT, &[1]), a_edit(A, PUT, &[9]), a_edit(TXT, PUT, &[2])]);
     send(&mut server, 0, 0, &subscribe(1, &a_name(), ANY, ANY));
     let outcome = batch(&mut server, 0, &[a_edit(TXT, DELETE, &[2]), a_edit(SRV, DELETE, &[1])]);
-    assert_eq!(pushed(&outcome), [removal(Scope::Rrset { rtype: SRV, class: 1 }), removal(Scope::Rrset { rtype: TXT, class: 1 })]);
+    assert_eq!(
+        pushed(&outcome),
+        [removal(Scope::Rrset { rtype: SRV, class: 1 }), removal(Scope::Rrset { rtype: TXT, class: 1 })]
+    );
 }
 
 #[test]

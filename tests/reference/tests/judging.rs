@@ -33,8 +33,16 @@ fn step_3_bad_form_by_id() {
         assert_eq!(kind(&message(id, REQUEST, &[])), expected, "no TLV");
         assert_eq!(kind(&message(id, REQUEST, &[0, 1, 0])), expected, "half a TLV header");
         assert_eq!(kind(&message(id, REQUEST, &[0, 1, 0, 8, 1])), expected, "data cut short");
-        assert_eq!(kind(&message(id, REQUEST, &[tlv(1, &SAMPLE), vec![0; 3]].concat())), expected, "bytes after the last TLV");
-        assert_eq!(kind(&message(id, REQUEST, &[tlv(1, &SAMPLE), vec![0, 9, 0, 1]].concat())), expected, "a later TLV cut short");
+        assert_eq!(
+            kind(&message(id, REQUEST, &[tlv(1, &SAMPLE), vec![0; 3]].concat())),
+            expected,
+            "bytes after the last TLV"
+        );
+        assert_eq!(
+            kind(&message(id, REQUEST, &[tlv(1, &SAMPLE), vec![0, 9, 0, 1]].concat())),
+            expected,
+            "a later TLV cut short"
+        );
         assert_eq!(kind(&with_count(message(id, REQUEST, &tlv(2, &[])))), expected, "counts come before types");
         assert_eq!(kind(&with_count(message(id, REQUEST, &tlv(0x41, &[])))), expected);
     }
@@ -55,7 +63,11 @@ fn step_4_by_first_type() {
     assert_eq!(kind(&message(0, REQUEST, &tlv(0x40, &question(&[0], 1, 1)))), 41);
     assert_eq!(kind(&message(5, REQUEST, &tlv(0x42, &[0, 1]))), 41);
     assert_eq!(kind(&message(5, REQUEST, &tlv(0x43, &question(&[0], 1, 1)))), 41);
-    assert_eq!(kind(&message(5, REQUEST, &[tlv(1, &SAMPLE), tlv(2, &[]), tlv(0x41, &[1])].concat())), 44, "later TLVs are ignored");
+    assert_eq!(
+        kind(&message(5, REQUEST, &[tlv(1, &SAMPLE), tlv(2, &[]), tlv(0x41, &[1])].concat())),
+        44,
+        "later TLVs are ignored"
+    );
 }
 
 #[test]
@@ -137,7 +149,11 @@ fn a_used_id_aborts_only_at_its_step() {
 #[test]
 fn a_subscribe_is_tried_in_order() {
     assert_eq!(answer_to(&subscribe(8, &dotted("shop.example.x"), A, 1)), (2, Some(9)));
-    assert_eq!(answer_to(&subscribe(8, &dotted("A.shop.EXAMPLE"), A, 1)), (4, None), "spelling makes no other subscription");
+    assert_eq!(
+        answer_to(&subscribe(8, &dotted("A.shop.EXAMPLE"), A, 1)),
+        (4, None),
+        "spelling makes no other subscription"
+    );
     assert_eq!(answer_to(&subscribe(8, &dotted("a.shop.example"), A, 3)), (2, Some(0)));
     let mut server = served();
     for id in 100..115 {
@@ -145,7 +161,11 @@ fn a_subscribe_is_tried_in_order() {
     }
     assert_eq!(rcode(&send(&mut server, 0, 0, &subscribe(8, &dotted("other"), A, 1)), 0), 9, "NOTAUTH before SERVFAIL");
     assert_eq!(rcode(&send(&mut server, 0, 0, &subscribe(8, &dotted("c.shop.example"), A, 1)), 0), 2);
-    assert_eq!(send(&mut server, 0, 0, &subscribe(8, &dotted("a.shop.example"), A, 1)).answer.number(), 4, "a duplicate before SERVFAIL");
+    assert_eq!(
+        send(&mut server, 0, 0, &subscribe(8, &dotted("a.shop.example"), A, 1)).answer.number(),
+        4,
+        "a duplicate before SERVFAIL"
+    );
 }
 
 #[test]

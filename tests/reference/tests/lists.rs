@@ -41,7 +41,11 @@ fn all_classes_only_where_two_classes_leave() {
     let old = [record("a", TXT, 3, &[1]), record("a", A, 1, &[2]), record("a", SRV, 1, &[3])];
     let everything = asks(&[("a", ANY, ANY)]);
     assert_eq!(list(&old, &[], &everything), [removal("a", Scope::AllClasses)]);
-    assert_eq!(list(&old, &[], &asks(&[("a", ANY, 1)])), [removal("a", Scope::AllTypes { class: 1 })], "the view decides the width");
+    assert_eq!(
+        list(&old, &[], &asks(&[("a", ANY, 1)])),
+        [removal("a", Scope::AllTypes { class: 1 })],
+        "the view decides the width"
+    );
     assert_eq!(list(&old, &[], &asks(&[("a", A, 1)])), [removal("a", Scope::Rrset { rtype: A, class: 1 })]);
     let by_class = [removal("a", Scope::Rrset { rtype: TXT, class: 3 }), removal("a", Scope::AllTypes { class: 1 })];
     assert_eq!(list(&old, &[record("a", A, 4, &[])], &everything)[..2], by_class, "another class stays");
@@ -59,14 +63,18 @@ fn a_record_outside_the_view_narrows_the_removal() {
     let old = [record("a", TXT, 1, &[1]), record("a", SRV, 1, &[2]), record("a", A, 1, &[3])];
     let seen = asks(&[("a", TXT, 1), ("a", SRV, 1)]);
     assert_eq!(list(&old, &[], &seen), [removal("a", Scope::AllTypes { class: 1 })]);
-    let narrow = [removal("a", Scope::Rrset { rtype: TXT, class: 1 }), removal("a", Scope::Rrset { rtype: SRV, class: 1 })];
+    let narrow =
+        [removal("a", Scope::Rrset { rtype: TXT, class: 1 }), removal("a", Scope::Rrset { rtype: SRV, class: 1 })];
     assert_eq!(list(&old, &old[2..], &seen), narrow, "true of the store, not of the view");
 }
 
 #[test]
 fn one_record_alone_leaves_as_its_rrset() {
     let old = [record("a", A, 1, &[1, 2, 3]), record("b", A, 1, &[])];
-    assert_eq!(list(&old, &old[1..], &asks(&[("a", A, 1), ("b", A, 1)])), [removal("a", Scope::Rrset { rtype: A, class: 1 })]);
+    assert_eq!(
+        list(&old, &old[1..], &asks(&[("a", A, 1), ("b", A, 1)])),
+        [removal("a", Scope::Rrset { rtype: A, class: 1 })]
+    );
 }
 
 #[test]
@@ -116,9 +124,13 @@ fn spelling_and_order_are_no_change() {
 
 #[test]
 fn cname_matches_any_type_and_an_asterisk_only_itself() {
-    let new = [record("a", CNAME, 1, &[1]), record("a", TXT, 1, &[1]), record("*", A, 1, &[1]), record("a", CNAME, 3, &[1])];
+    let new =
+        [record("a", CNAME, 1, &[1]), record("a", TXT, 1, &[1]), record("*", A, 1, &[1]), record("a", CNAME, 3, &[1])];
     assert_eq!(list(&[], &new, &asks(&[("a", A, 1)])), [Change::Add(new[0].clone())]);
-    assert_eq!(list(&[], &new, &asks(&[("a", CNAME, ANY)])), [Change::Add(new[0].clone()), Change::Add(new[3].clone())]);
+    assert_eq!(
+        list(&[], &new, &asks(&[("a", CNAME, ANY)])),
+        [Change::Add(new[0].clone()), Change::Add(new[3].clone())]
+    );
     assert_eq!(list(&[], &new, &asks(&[("*", ANY, ANY)])), [Change::Add(new[2].clone())]);
     assert_eq!(list(&[], &new, &asks(&[("b", ANY, ANY)])), []);
 }

@@ -61,23 +61,36 @@ fn a_missing_push_is_found() {
 fn longer_untrue_and_reordered_lists_are_found() {
     let single = |octet: u8| removal(Scope::Single { rtype: A, class: 1, rdata: vec![octet] });
     let rrset = removal(Scope::Rrset { rtype: A, class: 1 });
-    for list in [vec![single(1), single(2)], vec![removal(Scope::AllClasses)], vec![removal(Scope::AllTypes { class: 1 })], vec![rrset.clone(), rrset.clone()]] {
+    for list in [
+        vec![single(1), single(2)],
+        vec![removal(Scope::AllClasses)],
+        vec![removal(Scope::AllTypes { class: 1 })],
+        vec![rrset.clone(), rrset.clone()],
+    ] {
         assert!(with_changed(delete_both_a(), |outcome| outcome.output[0] = framed(&list)).is_err(), "{list:?}");
     }
-    assert!(with_changed(delete_both_a(), |outcome| outcome.output[0] = [framed(&[single(1)]), framed(&[single(2)])].concat()).is_err());
-    assert_eq!(with_changed(delete_both_a(), |outcome| outcome.output[0] = framed(&[rrset.clone()])), Ok(()));
+    assert!(with_changed(delete_both_a(), |outcome| outcome.output[0] =
+        [framed(&[single(1)]), framed(&[single(2)])].concat())
+    .is_err());
+    assert_eq!(
+        with_changed(delete_both_a(), |outcome| outcome.output[0] = framed(std::slice::from_ref(&rrset))),
+        Ok(())
+    );
     let delete_all = [delete_both_a(), a_edit(TXT, DELETE, &[3])].concat();
     let text = removal(Scope::Rrset { rtype: TXT, class: 1 });
     for list in [vec![rrset.clone(), text.clone()], vec![text, rrset], vec![removal(Scope::AllClasses)]] {
         assert!(with_changed(delete_all.clone(), |outcome| outcome.output[0] = framed(&list)).is_err(), "{list:?}");
     }
-    assert_eq!(with_changed(delete_all, |outcome| outcome.output[0] = framed(&[removal(Scope::AllTypes { class: 1 })])), Ok(()));
+    assert_eq!(
+        with_changed(delete_all, |outcome| outcome.output[0] = framed(&[removal(Scope::AllTypes { class: 1 })])),
+        Ok(())
+    );
 }
 
 #[test]
 fn wrong_spelling_is_found() {
     let loud = Change::Remove(Removal { name: dotted("A.shop.example"), scope: Scope::Rrset { rtype: A, class: 1 } });
-    assert!(with_changed(delete_both_a(), |outcome| outcome.output[0] = framed(&[loud.clone()])).is_err());
+    assert!(with_changed(delete_both_a(), |outcome| outcome.output[0] = framed(std::slice::from_ref(&loud))).is_err());
 }
 
 #[test]

@@ -1,4 +1,4 @@
-//! Calls: batches and their faults, sessions, clocks, refusals and the lent output.
+//! Calls: sessions, clocks, refusals and the lent output.
 
 mod common;
 
@@ -11,15 +11,6 @@ fn put(number: u16) -> Vec<u8> {
     a_edit(A, PUT, &number.to_be_bytes())
 }
 
-fn answer(server: &mut Server, edits: &[Vec<u8>]) -> u32 {
-    let before = server.clone();
-    let outcome = batch(server, before.latest, edits);
-    if outcome.is_refused() {
-        assert_eq!(*server, before);
-    }
-    outcome.answer.number()
-}
-
 #[test]
 fn a_start_needs_a_name() {
     for bad in [&[][..], &[1, b'a'], &[0, 0], &[64], &[0xc0, 0]] {
@@ -27,58 +18,6 @@ fn a_start_needs_a_name() {
     }
     assert_eq!(Refusal::NoZoneName as u32, 20);
     assert_eq!(Server::start(&[0]).map(|server| server.latest), Ok(0));
-}
-
-#[test]
-fn edits_are_read_left_to_right() {
-    let (good, wrong, broken) = (put(1), a_edit(ANY, PUT, &[]), vec![1, b'a']);
-    let mut server = server();
-    assert_eq!(answer(&mut server, &[good.clone(), wrong.clone(), broken.clone()]), 15);
-    assert_eq!(answer(&mut server, &[good.clone(), broken.clone()]), 14);
-    assert_eq!(answer(&mut server, &[vec![0xc0], wrong]), 14);
-    let thirty_two: Vec<Vec<u8>> = (0..32).map(put).collect();
-    assert_eq!(answer(&mut server, &[thirty_two.clone(), vec![vec![0xff]]].concat()), 16, "16 before 14");
-    assert_eq!(answer(&mut server, &thirty_two), 1);
-    assert_eq!(answer(&mut server, &[(32..40).map(put).collect::<Vec<_>>(), vec![put(40), broken]].concat()), 17, "17 comes before a later 14");
-    assert_eq!(answer(&mut server, &(32..40).map(put).collect::<Vec<_>>()), 1);
-    assert_eq!(answer(&mut server, &[put(39)]), 1, "a held record finds 39 others");
-    assert_eq!(answer(&mut server, &[put(40)]), 17);
-    assert_eq!(answer(&mut server, &[a_edit(A, DELETE, &[0, 0]), put(40)]), 1);
-    assert_eq!(answer(&mut server, &[put(41), a_edit(A, DELETE, &[0, 1])]), 17);
-    assert_eq!(answer(&mut server, &[a_edit(ANY, PUT, &[7])]), 15, "15 before 17");
-    assert_eq!(answer(&mut server, &[]), 1);
-}
-
-#[test]
-fn values_of_edits() {
-    let mut server = server();
-    for (ttl, expected) in [(0, 1), (0x7fff_ffff, 1), (0x8000_0000, 15), (0xffff_fffd, 15), (0xffff_fffe, 15), (0xffff_ffff, 1)] {
-        assert_eq!(answer(&mut server, &[a_edit(A, ttl, &[])]), expected, "{ttl:x}");
-    }
-    for ttl in [PUT, DELETE] {
-        for (rtype, class, expected) in [(0, 1, 15), (255, 1, 15), (1, 0, 15), (1, 255, 15), (254, 256, 1), (0xffff, 0xffff, 1)] {
-            assert_eq!(answer(&mut server, &[edit(&dotted("shop.example"), rtype, class, ttl, &[])]), expected);
-        }
-        for (size, expected) in [(128, 1), (129, 15), (65_535, 15)] {
-            assert_eq!(answer(&mut server, &[a_edit(A, ttl, &vec![1; size])]), expected);
-        }
-        assert_eq!(answer(&mut server, &[edit(&dotted("a.xshop.example"), A, 1, ttl, &[])]), 15);
-    }
-    let mut cut = a_edit(A, PUT, &[1; 129]);
-    cut.pop();
-    assert_eq!(answer(&mut server, &[cut]), 14, "14 before 15");
-}
-
-#[test]
-fn puts_keep_place_and_spelling() {
-    let mut server = server();
-    answer(&mut server, &[put(1), put(2)]);
-    answer(&mut server, &[edit(&dotted("A.SHOP.example"), A, 1, 9, &[0, 1])]);
-    assert_eq!((server.records[0].name.clone(), server.records[0].ttl), (dotted("a.shop.example"), 9));
-    answer(&mut server, &[edit(&dotted("A.shop.example"), A, 1, DELETE, &[0, 1]), edit(&dotted("A.SHOP.example"), A, 1, 9, &[0, 1])]);
-    assert_eq!(server.records.iter().map(|record| record.rdata[1]).collect::<Vec<_>>(), [2, 1]);
-    assert_eq!(server.records[1].name, dotted("A.SHOP.example"));
-    assert_eq!(answer(&mut server, &[a_edit(A, DELETE, &[7])]), 1, "deleting an absent record is harmless");
 }
 
 #[test]
@@ -107,7 +46,7 @@ fn a_session_that_is_used_again_starts_anew() {
     open(&mut server, 6);
     assert_eq!(batch(&mut server, 6, &[put(1)]).answer.number(), 1);
     assert_eq!(tick(&mut server, 30_005), [false; 4]);
-    assert_eq!(tick(&mut server, 30_006)[0], true);
+    assert!(tick(&mut server, 30_006)[0]);
 }
 
 #[test]
@@ -117,10 +56,10 @@ fn keepalive_runs_out_at_twice_its_interval() {
     send(&mut server, 100, 0, &subscribe(1, &dotted("a.shop.example"), A, 1));
     let mut later = server.clone();
     assert_eq!(tick(&mut server, 30_099), [false; 4]);
-    assert_eq!(tick(&mut server, 30_100)[0], true, "a subscription does not stop the keepalive clock");
+    assert!(tick(&mut server, 30_100)[0], "a subscription does not stop the keepalive clock");
     send(&mut later, 200, 0, &keepalive(2, 0, 0));
     assert_eq!(tick(&mut later, 120_199), [false; 4]);
-    assert_eq!(tick(&mut later, 120_200)[0], true);
+    assert!(tick(&mut later, 120_200)[0]);
 }
 
 #[test]
@@ -130,12 +69,12 @@ fn inactivity_runs_on_under_keepalives_and_subscriptions() {
     send(&mut server, 1_000, 0, &keepalive(2, 0, 0));
     assert_eq!(tick(&mut server, 29_999), [false; 4]);
     let mut other = server.clone();
-    assert_eq!(tick(&mut server, 30_000)[0], true);
+    assert!(tick(&mut server, 30_000)[0]);
     send(&mut other, 29_999, 0, &subscribe(1, &dotted("a.shop.example"), A, 1));
     assert_eq!(tick(&mut other, 100_000), [false; 4]);
     send(&mut other, 100_000, 0, &unsubscribe(1));
     assert_eq!(tick(&mut other, 129_999), [false; 4]);
-    assert_eq!(tick(&mut other, 130_000)[0], true);
+    assert!(tick(&mut other, 130_000)[0]);
 }
 
 #[test]
@@ -144,7 +83,7 @@ fn sending_restarts_nothing() {
     open(&mut server, 0);
     send(&mut server, 0, 0, &subscribe(1, &dotted("a.shop.example"), A, 1));
     assert_eq!(batch(&mut server, 20_000, &[put(1)]).answer.number(), 2);
-    assert_eq!(tick(&mut server, 30_000)[0], true);
+    assert!(tick(&mut server, 30_000)[0]);
 }
 
 #[test]
@@ -153,7 +92,7 @@ fn a_malformed_keepalive_grants_nothing() {
     open(&mut server, 0);
     assert_eq!(rcode(&send(&mut server, 10_000, 0, &message(1, REQUEST, &tlv(1, &[0; 9]))), 0), 1);
     assert_eq!(tick(&mut server, 29_999), [false; 4]);
-    assert_eq!(tick(&mut server, 30_000)[0], true, "inactivity from the opening");
+    assert!(tick(&mut server, 30_000)[0], "inactivity from the opening");
 }
 
 #[test]
@@ -161,7 +100,7 @@ fn the_last_times_of_64_bits() {
     let mut server = server();
     open(&mut server, u64::MAX - 30_000);
     assert_eq!(tick(&mut server, u64::MAX - 1), [false; 4]);
-    assert_eq!(tick(&mut server, u64::MAX)[0], true);
+    assert!(tick(&mut server, u64::MAX)[0]);
     assert_eq!(open(&mut server, u64::MAX), 0);
     assert_eq!(tick(&mut server, u64::MAX), [false; 4]);
 }
@@ -191,7 +130,8 @@ fn short_output_is_refused_first() {
     open(&mut server, 5);
     let before = server.clone();
     let mut short = vec![0; OUTPUT - 1];
-    for call in [Call::Batch { time: 4, edits: vec![1] }, Call::Message { time: 4, session: 9, bytes: vec![0; 65_536] }] {
+    for call in [Call::Batch { time: 4, edits: vec![1] }, Call::Message { time: 4, session: 9, bytes: vec![0; 65_536] }]
+    {
         assert_eq!(server.call_into(&call, &mut short).answer.number(), 12);
     }
     assert_eq!(server, before);
@@ -205,8 +145,8 @@ fn the_largest_push_fits() {
     let mut server = server();
     let long = reference::craft::stretched(&dotted("shop.example"), 255, b'n');
     let all: Vec<Vec<u8>> = (0..40u8).map(|number| edit(&long, A, 1, PUT, &[number; 128])).collect();
-    assert_eq!(answer(&mut server, &all[..32]), 1);
-    assert_eq!(answer(&mut server, &all[32..]), 1);
+    assert_eq!(batch(&mut server, 0, &all[..32]).answer.number(), 1);
+    assert_eq!(batch(&mut server, 0, &all[32..]).answer.number(), 1);
     open(&mut server, 0);
     let mut out = vec![0; OUTPUT];
     let bytes = subscribe(1, &long, A, 1);
