@@ -106,11 +106,8 @@ impl Observer {
 
     /// A message answered with bytes: one reply, and after an accepted SUBSCRIBE at most one PUSH.
     fn note_reply(&mut self, session: u64, message: &[u8], written: &[(usize, Frame)]) -> Result<(), String> {
-        let store = self.store.clone();
         let client = self.living(session)?;
-        let [(_, Frame::Reply(reply)), pushes @ ..] = written else {
-            return Err("no reply stands first".to_string());
-        };
+        let [(_, Frame::Reply(reply)), pushes @ ..] = written else { return Err("no reply stands first".to_string()) };
         if written.iter().any(|(number, _)| *number as u64 != session) {
             return Err("a message wrote to another session".to_string());
         }
@@ -118,17 +115,29 @@ impl Observer {
         if reply.rcode == 0 && client.subscriptions.iter().any(|asked| asked.id == reply.id) {
             return Err(format!("ID {} is held by a subscription and was taken again", reply.id));
         }
-        if reply.rcode != 0 || first_tlv(message)?.0 != 0x0040 {
-            return if pushes.is_empty() {
-                Ok(())
-            } else {
-                Err("a PUSH after a reply that starts nothing".to_string())
-            };
+        if reply.rcode == 0 && first_tlv(message)?.0 == 0x0040 {
+            return self.note_subscribe(session, reply.id, message, pushes);
         }
+        match pushes.is_empty() {
+            true => Ok(()),
+            false => Err("a PUSH after a reply that starts nothing".to_string()),
+        }
+    }
+
+    /// An accepted SUBSCRIBE: every matching record comes in one PUSH, or none if nothing matches.
+    fn note_subscribe(
+        &mut self,
+        session: u64,
+        id: u16,
+        message: &[u8],
+        pushes: &[(usize, Frame)],
+    ) -> Result<(), String> {
         let mut data = Rest(first_tlv(message)?.1);
-        let asked = Asked { id: reply.id, name: data.name()?, rtype: data.short()?, class: data.short()? };
+        let asked = Asked { id, name: data.name()?, rtype: data.short()?, class: data.short()? };
+        let initial: Vec<Notice> =
+            self.store.iter().filter(|entry| asked.matches(&entry.key)).map(Entry::add).collect();
+        let client = self.living(session)?;
         check_room(client, &asked)?;
-        let initial: Vec<Notice> = store.iter().filter(|entry| asked.matches(&entry.key)).map(Entry::add).collect();
         client.subscriptions.push(asked);
         match pushes {
             [] if initial.is_empty() => Ok(()),

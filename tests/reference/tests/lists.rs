@@ -146,6 +146,36 @@ fn the_search_sees_shorter_lists() {
     assert_eq!(least(&old[..2], &[], &old[2..]), Some(Least { notices: 1, bytes: name_and_ten }));
 }
 
+/// Every old and new store over five records, one with a new TTL, seen through four sets of subscriptions.
+#[test]
+fn no_list_is_shorter_in_any_small_case() {
+    let all = [
+        record("a", A, 1, &[1]),
+        record("A", A, 1, &[2]),
+        record("a", TXT, 1, &[]),
+        record("a", A, 3, &[1]),
+        record("b", CNAME, 1, &[1]),
+    ];
+    let seen = [
+        asks(&[("a", ANY, ANY), ("b", ANY, ANY)]),
+        asks(&[("a", A, ANY), ("b", TXT, 1)]),
+        asks(&[("a", ANY, 1)]),
+        asks(&[("a", TXT, 1), ("a", A, 3)]),
+    ];
+    let chosen = |bits: usize| (0..5).filter(|at| bits >> at & 1 == 1).map(|at| all[at].clone()).collect::<Vec<_>>();
+    let mut lists = 0;
+    for bits in 0..32 * 32 {
+        let (old, mut new) = (chosen(bits % 32), chosen(bits / 32));
+        if let Some(record) = new.iter_mut().find(|record| record.rdata == [2]) {
+            record.ttl = 7;
+        }
+        for subscriptions in &seen {
+            lists += usize::from(!list(&old, &new, subscriptions).is_empty());
+        }
+    }
+    assert_eq!(lists, 1008 + 992 + 960 + 768, "all cases but those where nothing in the view differs");
+}
+
 #[test]
 fn bytes_that_are_no_push() {
     let good = push(&[Change::Add(record("a", A, 1, &[1]))]);
