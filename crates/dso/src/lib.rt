@@ -20,3 +20,7 @@ pub use matching::asks_for;
 pub use matching::is_name;
 pub use response::Response;
 pub use response::Timeouts;
+pub use response::granted;
+pub use response::write_header;
+pub use response::write_response;
+pub use response::write_tlv;
