@@ -309,6 +309,9 @@ sameName-trans a b c h k = sameName-of a c (sameName-true a b h ∙ sameName-tru
 pub sameName-length : (a b : List ℕ) → sameName a b ≡ true → length a ≡ length b
 sameName-length a b h = length-case a b (sameName-true a b h)
 
+pub sameName-lowered : (a : List ℕ) → sameName a (lowered a) ≡ true
+sameName-lowered a = sameName-of a (lowered a) (sym (lowered-lowered a))
+
 pub sameName-isName : (a b : List ℕ) → sameName a b ≡ true → isName a ≡ isName b
 sameName-isName a b h = isName-case a b (sameName-true a b h)
 
@@ -368,6 +371,9 @@ within-name z a b h k =
     let m : length a ≤ maxName = isName-max a h in
     let r : Reads 0 (take maxName a) (length a) = nameLength-reads a (length a) (isName-length a h) in
     endsIn-reads z (subst (λ (l : List ℕ). Reads 0 l (length a)) (take-all maxName a m) r) refl b (sameName-true a b k)
+
+pub within-lowered : (z a : List ℕ) → isName a ≡ true → within z (lowered a) ≡ within z a
+within-lowered z a h = sym (within-name z a (lowered a) h (sameName-lowered a))
 
 pub within-self : (z : List ℕ) → isName z ≡ true → within z z ≡ true
 unfolding within endsIn
