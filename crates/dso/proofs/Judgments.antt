@@ -16,9 +16,35 @@ use Rattle.wire.proofs.Names.{nameLength-front}
 use Rattle.dso.specs.Header.{headerLength, dsoOpcode, messageId, isResponse, opcode, noRecords}
 use Rattle.dso.specs.Tlv.{Tlv, tlvFront, also, tlvs, tlvsFrom}
 use Rattle.dso.specs.Judge.{
-  keepaliveType, retryDelayType, subscribeType, pushType, unsubscribeType, reconfirmType, any, mid, dataStart, badForm,
-  Opening, settled, primary, firstOf, formOf, opening, request, unidirectional, keepalive, question, asks, subscribe,
-  unsubscribe, disputed, disputes, reconfirm, byType, concluded, judgment,
+  keepaliveType,
+  retryDelayType,
+  subscribeType,
+  pushType,
+  unsubscribeType,
+  reconfirmType,
+  any,
+  mid,
+  dataStart,
+  badForm,
+  Opening,
+  settled,
+  primary,
+  firstOf,
+  formOf,
+  opening,
+  request,
+  unidirectional,
+  keepalive,
+  question,
+  asks,
+  subscribe,
+  unsubscribe,
+  disputed,
+  disputes,
+  reconfirm,
+  byType,
+  concluded,
+  judgment,
 }
 use Rattle.dso.specs.declared.judgment.MessageId.{MessageId}
 use Rattle.dso.specs.declared.judgment.Question.{Question}
@@ -95,9 +121,9 @@ module _ (m : List ℕ) where
       let k = field 2 (drop 2 (drop headerLength m)) in
       let l = drop 4 (drop headerLength m) in
       ap nameLength
-        (sym (drop-drop 4 headerLength m) ∙ sym (take-append-drop k l)
-        ∙ ap (λ (x : List ℕ). x ++ drop k l) (sym (take-append-drop n value))
-        ∙ append-assoc (take n value) (drop n value) (drop k l))
+      (sym (drop-drop 4 headerLength m) ∙ sym (take-append-drop k l)
+      ∙ ap (λ (x : List ℕ). x ++ drop k l) (sym (take-append-drop n value))
+      ∙ append-assoc (take n value) (drop n value) (drop k l))
       ∙ nameLength-front value n (drop n value ++ drop k l) e
 
   module _ (id : ℕ) (same : id ≡ messageId m) where
@@ -110,7 +136,7 @@ module _ (m : List ℕ) where
         go (some n) e =
             cond-meant (eqb (length value) (n + 4)) (Subscribe (mid id) (question n)) (Reply (mid id) FormErr)
             (λ (t : eqb (length value) (n + 4) ≡ true).
-              record { sameId = same; first = first; size = n; named = named-there n e; places = refl })
+            record { sameId = same; first = first; size = n; named = named-there n e; places = refl })
             (λ (f : eqb (length value) (n + 4) ≡ false). same)
 
     reconfirm-meant : Meant m (reconfirm value)
@@ -122,9 +148,9 @@ module _ (m : List ℕ) where
         go (some n) =
             cond-meant (ltb (length value) (n + 4)) Abort _ (λ (t : ltb (length value) (n + 4) ≡ true). tt)
             (λ (f : ltb (length value) (n + 4) ≡ false).
-              cond-meant (eqb (field 2 (drop n value)) any || eqb (field 2 (drop (n + 2) value)) any) Abort (Reconfirm (disputed n (length value)))
-              (λ (t : (eqb (field 2 (drop n value)) any || eqb (field 2 (drop (n + 2) value)) any) ≡ true). tt)
-              (λ (t : (eqb (field 2 (drop n value)) any || eqb (field 2 (drop (n + 2) value)) any) ≡ false). tt))
+            cond-meant (eqb (field 2 (drop n value)) any || eqb (field 2 (drop (n + 2) value)) any) Abort (Reconfirm (disputed n (length value)))
+            (λ (t : (eqb (field 2 (drop n value)) any || eqb (field 2 (drop (n + 2) value)) any) ≡ true). tt)
+            (λ (t : (eqb (field 2 (drop n value)) any || eqb (field 2 (drop (n + 2) value)) any) ≡ false). tt))
 
     request-meant : (j : Judgment) → Meant m j → Meant m (request id j)
     request-meant j h = cond-meant (eqb id 0) Abort j (λ (e : eqb id 0 ≡ true). tt) (λ (e : eqb id 0 ≡ false). h)
@@ -144,10 +170,10 @@ module _ (m : List ℕ) where
     unsubscribe-meant =
         cond-meant (eqb (length value) 2) (Unsubscribe (mid (field 2 value))) Abort
         (λ (t : eqb (length value) 2 ≡ true).
-          let k = field 2 (drop 2 (drop headerLength m)) in
-          let l = drop 4 (drop headerLength m) in
-          sym (field-append 2 value (drop k l) (omega (arith, eqb-true (length value) 2 t)))
-          ∙ ap (field 2) (take-append-drop k l ∙ drop-drop 4 headerLength m))
+        let k = field 2 (drop 2 (drop headerLength m)) in
+        let l = drop 4 (drop headerLength m) in
+        sym (field-append 2 value (drop k l) (omega (arith, eqb-true (length value) 2 t)))
+        ∙ ap (field 2) (take-append-drop k l ∙ drop-drop 4 headerLength m))
         (λ (f : eqb (length value) 2 ≡ false). tt)
 
     byType-meant : Meant m (byType id (firstType m) value)

@@ -11,24 +11,11 @@ use Rattle.zone.specs.Sound.{distinct, Exactly}
 use Rattle.zone.proofs.Edits.{distinct-batch}
 use Rattle.push.specs.Change.{Change, appliedAll}
 use Rattle.push.specs.List.{changes}
-use Rattle.push.specs.Measure.{onlyTrue, bytes, Brings}
+use Rattle.push.specs.Measure.{Right, onlyTrue, bytes, Brings}
 use Rattle.push.proofs.Effects.{find-appliedAll}
 use Rattle.push.proofs.Arrive.{Between, views-between, changes-true, arrives-at, arrives}
 use Rattle.push.proofs.Fewest.{fewest, shortest}
 use Rattle.push.proofs.Few.{few-batch}
-
--- Of a new store, the old view and the new view:
-pub record Right (store old new : List Record) : Type 0 where
-  -- a client that has just the old view and applies the list has just the new view;
-  pub arrives : (client : List Record) → Exactly client old → Exactly (appliedAll (changes store old new) client) new
-  -- no removal of the list covers a record of the new store;
-  pub trueOnly : onlyTrue store (changes store old new) ≡ true
-  -- the list is one of those that it is measured against,
-  pub brings : Brings store old new (changes store old new)
-  -- none of which has fewer changes,
-  pub fewest : (cs : List Change) → Brings store old new cs → length (changes store old new) ≤ length cs
-  -- or fewer bytes.
-  pub shortest : (cs : List Change) → Brings store old new cs → bytes (changes store old new) ≤ bytes cs
 
 pub right-between : (store old new : List Record) → Between store old new → Right store old new
 right-between store old new b = record {

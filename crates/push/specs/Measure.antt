@@ -1,13 +1,16 @@
 -- What a list of changes is measured by, and against (01, "Demand 3 over whole lists").
-use Prim.Native.Nat.{ℕ, _+_}
+use Prim.Native.Nat.{ℕ, _+_, _≤_}
 use mathlib.Core.Bool.{Bool, true}
 use mathlib.Core.List.{List, [], _∷_}
 use mathlib.Core.Path.{_≡_}
+use lib.ListN.{length}
 use Rattle.zone.specs.Lists.{allOf}
 use Rattle.zone.specs.Record.{Record, Key}
 use Rattle.zone.specs.Store.{find}
 use Rattle.zone.specs.Layout.{size}
+use Rattle.zone.specs.Sound.{Exactly}
 use Rattle.push.specs.Change.{Change, addition, removal, isTrue, appliedAll, fieldsOf}
+use Rattle.push.specs.List.{changes}
 
 abbrev pub isTrueChange : List Record → Change → Bool
 isTrueChange store (addition r) = true
@@ -30,3 +33,16 @@ bytes cs = total (λ (c : Change). size (fieldsOf c)) cs
 pub record Brings (store old new : List Record) (cs : List Change) : Type 0 where
   pub trueOnly : onlyTrue store cs ≡ true
   pub arrives : (k : Key) → find k (appliedAll cs old) ≡ find k new
+
+-- What is claimed of the list that 01 fixes, of a new store, the old view and the new view:
+pub record Right (store old new : List Record) : Type 0 where
+  -- a client that has just the old view and applies the list has just the new view;
+  pub arrives : (client : List Record) → Exactly client old → Exactly (appliedAll (changes store old new) client) new
+  -- no removal of the list covers a record of the new store;
+  pub trueOnly : onlyTrue store (changes store old new) ≡ true
+  -- the list is one of those that it is measured against,
+  pub brings : Brings store old new (changes store old new)
+  -- none of which has fewer changes,
+  pub fewest : (cs : List Change) → Brings store old new cs → length (changes store old new) ≤ length cs
+  -- or fewer bytes.
+  pub shortest : (cs : List Change) → Brings store old new cs → bytes (changes store old new) ≤ bytes cs

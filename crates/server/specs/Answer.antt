@@ -7,7 +7,13 @@ use Rattle.zone.specs.declared.BatchFault.{BatchFault}
 use Rattle.zone.specs.declared.BatchFault.the-variants.{TooManyEdits, Unreadable, BadValue, StoreFull}
 use Rattle.server.specs.declared.refusal.Refusal.{Refusal}
 use Rattle.server.specs.declared.refusal.Refusal.the-variants.{
-  NoSession, TimeBackwards, OutputTooShort, AllOpen, Batch, MessageTooLong, NotAName,
+  NoSession,
+  TimeBackwards,
+  OutputTooShort,
+  AllOpen,
+  Batch,
+  MessageTooLong,
+  NotAName,
 }
 
 pub data Answer : Type 0 where

@@ -18,11 +18,25 @@ use Rattle.push.specs.Octets.{pushOf}
 use Rattle.session.specs.Clocks.{started, expired}
 use Rattle.server.specs.State.{State, Session, Slot, free, live, slotAt, maxSessions, fresh, lowestFree}
 use Rattle.server.specs.Answer.{
-  Answer, done, opened, ended, sent, notOurs, aborted, reconfirm, refused,
+  Answer,
+  done,
+  opened,
+  ended,
+  sent,
+  notOurs,
+  aborted,
+  reconfirm,
+  refused,
 }
 use Rattle.server.specs.Checks.{Brought, refusalOf, outputSize}
 use Rattle.server.specs.Message.{
-  Effect, abort, nothing, reply, others, places, messageEffect,
+  Effect,
+  abort,
+  nothing,
+  reply,
+  others,
+  places,
+  messageEffect,
 }
 use Rattle.server.specs.declared.refusal.Refusal.{Refusal}
 use Rattle.server.specs.declared.refusal.Refusal.the-variants.{AllOpen, Batch, NotAName}
@@ -76,11 +90,11 @@ told ws = cond (allOf (λ (w : List ℕ). eqb (length w) 0) ws) done (sent (map 
 unfoldable pub openOutcome : State → ℕ → Outcome
 openOutcome st t =
     elim (lowestFree (st .slots)) [
-      none ↦ refuse st [] AllOpen
-    | some s ↦ record {
+      | none ↦ refuse st [] AllOpen
+      | some s ↦ record {
         answer = opened s;
         next = withSlots t (set (st .slots) s (live (record { subscriptions = []; clocks = started t }))) st;
-        output = []
+        output = [];
       }
     ]
 
@@ -97,7 +111,7 @@ effectOutcome st t s output (reply x w) =
     record {
       answer = sent (set (replicate maxSessions 0) s (length w));
       next = withSlots t (set (st .slots) s (live x)) st;
-      output = sets output (s * outputSize) w
+      output = sets output (s * outputSize) w;
     }
 effectOutcome st t s output (others x) =
     record { answer = notOurs; next = withSlots t (set (st .slots) s (live x)) st; output = output }
@@ -119,11 +133,11 @@ pushTo old new (live x) = pushOf (changes new (view (x .subscriptions) old) (vie
 unfoldable pub batchOutcome : State → ℕ → List ℕ → List ℕ → Outcome
 batchOutcome st t bytes output =
     elim (batchOf (st .zone) bytes (st .store)) [
-      faulty f ↦ refuse st output (Batch f)
-    | stored new ↦ let ws = map (pushTo (st .store) new) (st .slots) in record {
+      | faulty f ↦ refuse st output (Batch f)
+      | stored new ↦ let ws = map (pushTo (st .store) new) (st .slots) in record {
         answer = told ws;
         next = withStore t new st;
-        output = written 0 ws output
+        output = written 0 ws output;
       }
     ]
 
@@ -140,7 +154,7 @@ tickOutcome st t =
     record {
       answer = ended (map (endsAt t) (st .slots));
       next = withSlots t (map (λ (x : Slot). cond (endsAt t x) free x) (st .slots)) st;
-      output = []
+      output = [];
     }
 
 -- What a call brings to the checks, its output slice, and its outcome where the checks pass.

@@ -6,7 +6,10 @@ use lib.Dec.{leb, ltb}
 use Rattle.server.specs.State.{State, Slot, free, live, slotAt, maxSessions}
 use Rattle.server.specs.declared.refusal.Refusal.{Refusal}
 use Rattle.server.specs.declared.refusal.Refusal.the-variants.{
-  NoSession, TimeBackwards, OutputTooShort, MessageTooLong,
+  NoSession,
+  TimeBackwards,
+  OutputTooShort,
+  MessageTooLong,
 }
 
 -- 01: "The caller lends four shelves of 16,384 bytes each, one slice of 65,536; session s writes from s x 16,384."

@@ -16,7 +16,13 @@ use Rattle.dso.specs.declared.judgment.ReplyCode.{ReplyCode}
 use Rattle.dso.specs.declared.judgment.ReplyCode.the-variants.{ServFail, NotAuth}
 use Rattle.dso.specs.declared.judgment.Judgment.{Judgment}
 use Rattle.dso.specs.declared.judgment.Judgment.the-variants.{
-  NotOurs, Abort, Reply, Keepalive, Subscribe, Unsubscribe, Reconfirm,
+  NotOurs,
+  Abort,
+  Reply,
+  Keepalive,
+  Subscribe,
+  Unsubscribe,
+  Reconfirm,
 }
 use Rattle.zone.specs.Lists.{keep}
 use Rattle.zone.specs.Record.{Record}
@@ -48,7 +54,7 @@ asked m id q =
       id = id .0;
       owner = partAt m (q .name);
       rrtype = field 2 (partAt m (q .rtype));
-      rrclass = field 2 (partAt m (q .class))
+      rrclass = field 2 (partAt m (q .class));
     }
 
 abbrev pub withClocks : Clocks → Session → Session

@@ -29,7 +29,15 @@ use Rattle.server.specs.Call.{Bytes, edits, Outcome, batchOutcome, pushTo, told
 use Rattle.server.specs.declared.refusal.Refusal.the-variants.{Batch}
 use Rattle.views.specs.Reader.{bytesFor, messagesIn, orNone, allPushes, pushesIn, pushesOf}
 use Rattle.views.specs.Observer.{
-  Client, Observer, noted, observe, hearing, heard, storedOr, applyPush, applyPushes,
+  Client,
+  Observer,
+  noted,
+  observe,
+  hearing,
+  heard,
+  storedOr,
+  applyPush,
+  applyPushes,
 }
 use Rattle.views.specs.Demand.{Run, inOne}
 use Rattle.views.proofs.Outputs.{bytes-told}
@@ -71,7 +79,7 @@ told-number ws = go (allOf (λ (w : List ℕ). eqb (length w) 0) ws)
 module _ (r : Run) (h : Related r) (bytes : List ℕ) (small : areBytes bytes ≡ true) (new : List Record)
     (carried : batchOf (r .state .zone) bytes (r .state .store) ≡ stored new)
     (arrives : (subs : List Subscription) (client : List Record) → Exactly client (view subs (r .state .store))
-      → Exactly (appliedAll (changes new (view subs (r .state .store)) (view subs new)) client) (view subs new))
+    → Exactly (appliedAll (changes new (view subs (r .state .store)) (view subs new)) client) (view subs new))
     (few : (subs : List Subscription) → length (changes new (view subs (r .state .store)) (view subs new)) ≤ 32) where
   pub sound-new : Sound (r .state .zone) new
   sound-new = sound-batch (r .state .zone) bytes (r .state .store) new (h .sound) small carried
@@ -117,20 +125,20 @@ module _ (r : Run) (h : Related r) (bytes : List ℕ) (small : areBytes bytes �
       record {
         subs = p .subs;
         exact = rw (hearing-push (listFor (x .subscriptions)) (c .records) (list-sendable (x .subscriptions)))
-          (arrives (x .subscriptions) (c .records) (p .exact))
+            (arrives (x .subscriptions) (c .records) (p .exact));
       }
 
   -- After a batch that is carried out.
-  carried-kept : (t : ℕ) (b : Bytes) (lent output : List ℕ) → b .list ≡ bytes → leastOutput ≤ length output
+  pub carried-kept : (t : ℕ) (b : Bytes) (lent output : List ℕ) → b .list ≡ bytes → leastOutput ≤ length output
       → Related (record {
-          state = record { zone = r .state .zone; latest = t; store = new; slots = r .state .slots };
-          observer = observe (edits t b lent) (told outputs) (written 0 outputs output) (r .observer)
-        })
+        state = record { zone = r .state .zone; latest = t; store = new; slots = r .state .slots };
+        observer = observe (edits t b lent) (told outputs) (written 0 outputs output) (r .observer);
+      })
   unfolding observe noted
   carried-kept t b lent output same room =
       let after : cond (eqb (answerNumber (told outputs)) 1 || eqb (answerNumber (told outputs)) 2)
-          (storedOr (r .observer .store) (batchOf (r .observer .zone) (b .list) (r .observer .store))) (r .observer .store) ≡ new
-        = rw (told-number outputs, same, h .zones, h .stores, carried) in
+      (storedOr (r .observer .store) (batchOf (r .observer .zone) (b .list) (r .observer .store))) (r .observer .store) ≡ new
+      = rw (told-number outputs, same, h .zones, h .stores, carried) in
       record {
         zones = h .zones;
         stores = after;
@@ -138,6 +146,6 @@ module _ (r : Run) (h : Related r) (bytes : List ℕ) (small : areBytes bytes �
         slots = h .slots;
         clients = length-heard 0 (told outputs) (written 0 outputs output) (r .observer .clients) ∙ h .clients;
         places = λ (i : ℕ).
-          rw (heard-at 0 (told outputs) (written 0 outputs output) (r .observer .clients) i, zero-add i, bytes-at output room i)
-          (place-kept (getD (r .state .slots) i free) (getD (r .observer .clients) i none) (h .places i))
+            rw (heard-at 0 (told outputs) (written 0 outputs output) (r .observer .clients) i, zero-add i, bytes-at output room i)
+            (place-kept (getD (r .state .slots) i free) (getD (r .observer .clients) i none) (h .places i));
       }

@@ -9,7 +9,10 @@ use Rattle.server.specs.State.{State}
 use Rattle.server.specs.Checks.{Brought, isShort, isAbsent, isLong, refusalOf}
 use Rattle.server.specs.declared.refusal.Refusal.{Refusal}
 use Rattle.server.specs.declared.refusal.Refusal.the-variants.{
-  NoSession, TimeBackwards, OutputTooShort, MessageTooLong,
+  NoSession,
+  TimeBackwards,
+  OutputTooShort,
+  MessageTooLong,
 }
 
 pub record Passed (st : State) (b : Brought) : Type 0 where
@@ -32,5 +35,5 @@ pub checks-passed : (st : State) (b : Brought) → refusalOf st b ≡ none → P
 unfolding refusalOf
 checks-passed st b e =
     let h = chain (isShort (b .output)) (ltb (b .time) (st .latest)) (isAbsent st (b .session)) (isLong (b .message))
-      OutputTooShort TimeBackwards NoSession MessageTooLong e in
+    OutputTooShort TimeBackwards NoSession MessageTooLong e in
     record { roomy = h .0; timely = h .1; present = h .2; short = h .3 }

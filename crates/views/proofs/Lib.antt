@@ -7,3 +7,4 @@ pub mod Plain
 pub mod Batch
 pub mod Replies
 pub mod Message
+pub mod Theorem

@@ -15,7 +15,15 @@ use Rattle.wire.proofs.Fields.{field-lt, field-take-le}
 use Rattle.dso.specs.Header.{messageId, isResponse, rcode}
 use Rattle.dso.specs.Judge.{subscribeType, keepaliveType, dataStart, question, judgment, judged}
 use Rattle.dso.specs.Response.{
-  rcodeOf, responseCode, response, responseOctets, framed, granted as grantedTimeouts, header, tlvOctets, tlvsOctets,
+  rcodeOf,
+  responseCode,
+  response,
+  responseOctets,
+  framed,
+  granted as grantedTimeouts,
+  header,
+  tlvOctets,
+  tlvsOctets,
   ReadsAs,
 }
 use Rattle.dso.specs.declared.judgment.MessageId.{MessageId}
@@ -25,7 +33,13 @@ use Rattle.dso.specs.declared.judgment.ReplyCode.{ReplyCode}
 use Rattle.dso.specs.declared.judgment.ReplyCode.the-variants.{FormErr, ServFail, NotAuth, DsoTypeNi}
 use Rattle.dso.specs.declared.judgment.Judgment.{Judgment}
 use Rattle.dso.specs.declared.judgment.Judgment.the-variants.{
-  NotOurs, Abort, Reply, Keepalive, Subscribe, Unsubscribe, Reconfirm,
+  NotOurs,
+  Abort,
+  Reply,
+  Keepalive,
+  Subscribe,
+  Unsubscribe,
+  Reconfirm,
 }
 use Rattle.dso.specs.declared.response.Response.{Response}
 use Rattle.dso.specs.declared.response.Response.the-variants.{Error, Keepalive as KeepaliveResponse, Subscribed}
@@ -50,14 +64,39 @@ use Rattle.server.specs.State.{State, Session, Slot, free, live, slotAt, maxSes
 use Rattle.server.specs.Answer.{Answer, done, sent, notOurs, aborted, reconfirm, answerNumber}
 use Rattle.server.specs.Checks.{outputSize, leastOutput, isFree}
 use Rattle.server.specs.Message.{
-  Effect, abort, nothing, reply, others, places, asked, withClocks, withSubscriptions, subscribed, keptAlive, answered,
+  Effect,
+  abort,
+  nothing,
+  reply,
+  others,
+  places,
+  asked,
+  withClocks,
+  withSubscriptions,
+  subscribed,
+  keptAlive,
+  answered,
   messageEffect,
 }
 use Rattle.server.specs.Call.{Bytes, receives, brought, Outcome, effectOutcome, messageOutcome, effectAt}
 use Rattle.views.specs.Reader.{bytesFor, messagesIn, orNone, isSuccess}
 use Rattle.views.specs.Observer.{
-  Client, Observer, withClients, noted, observe, hearing, heard, applyPushes, applyPush, afterMessage, isAccepted,
-  changeAt, subscribing, unsubscribing, subscriptionIn, named,
+  Client,
+  Observer,
+  withClients,
+  noted,
+  observe,
+  hearing,
+  heard,
+  applyPushes,
+  applyPush,
+  afterMessage,
+  isAccepted,
+  changeAt,
+  subscribing,
+  unsubscribing,
+  subscriptionIn,
+  named,
 }
 use Rattle.views.specs.Demand.{Run}
 use Rattle.views.proofs.Related.{Told, PlaceAt, Related}
@@ -162,7 +201,7 @@ module _ (r : Run) (h : Related r) (t s : ℕ) (m : Bytes) (lent : List ℕ) (q 
   Leads e =
       Related (record {
         state = effectOutcome (r .state) t s lent e .next;
-        observer = observe (receives t s m lent) (effectOutcome (r .state) t s lent e .answer) (effectOutcome (r .state) t s lent e .output) (r .observer)
+        observer = observe (receives t s m lent) (effectOutcome (r .state) t s lent e .answer) (effectOutcome (r .state) t s lent e .output) (r .observer);
       })
 
   -- The session goes on with other clocks, and its client is as it was.
@@ -182,16 +221,16 @@ module _ (r : Run) (h : Related r) (t s : ℕ) (m : Bytes) (lent : List ℕ) (q 
   quiet-kept : (a : Answer) (x : Session) → x .subscriptions ≡ q .session .subscriptions → ((i : ℕ) → bytesFor a lent i ≡ [])
       → eqb (answerNumber a) 4 ≡ false → eqb (answerNumber a) 1 ≡ false
       → Related (record {
-          state = record { zone = r .state .zone; latest = t; store = store; slots = set (r .state .slots) s (live x) };
-          observer = observe (receives t s m lent) a lent (r .observer)
-        })
+        state = record { zone = r .state .zone; latest = t; store = store; slots = set (r .state .slots) s (live x) };
+        observer = observe (receives t s m lent) a lent (r .observer);
+      })
   unfolding noted afterMessage
   quiet-kept a x e none-sent not4 not1 =
       rw (observe-nothing (receives t s m lent) a lent (r .observer) none-sent, not4, not1, nothing-accepted (m .list) (bytesFor a lent s) (none-sent s))
       (subst (λ (cl : List (Option Client)). Related (record {
-          state = record { zone = r .state .zone; latest = t; store = store; slots = set (r .state .slots) s (live x) };
-          observer = withClients cl (r .observer)
-        })) (sym same-client) (replaced r h t s (live x) (some (q .client)) (still-told x e)))
+        state = record { zone = r .state .zone; latest = t; store = store; slots = set (r .state .slots) s (live x) };
+        observer = withClients cl (r .observer);
+      })) (sym same-client) (replaced r h t s (live x) (some (q .client)) (still-told x e)))
 
   others-kept : (x : Session) → x .subscriptions ≡ q .session .subscriptions → Leads (others x)
   unfolding effectOutcome answerNumber bytesFor
@@ -209,8 +248,8 @@ module _ (r : Run) (h : Related r) (t s : ℕ) (m : Bytes) (lent : List ℕ) (q 
       record {
         subs = ap (without id) (q .holds .subs) ∙ sym e;
         exact = rw (e, q .holds .subs)
-          (view-fewer (q .session .subscriptions) (without id (q .session .subscriptions)) store (q .client .records)
-          (λ k. wantedKey-fewer (λ (b : Subscription). not (eqb (b .id) id)) (q .session .subscriptions) k) (q .holds .exact))
+            (view-fewer (q .session .subscriptions) (without id (q .session .subscriptions)) store (q .client .records)
+            (λ k. wantedKey-fewer (λ (b : Subscription). not (eqb (b .id) id)) (q .session .subscriptions) k) (q .holds .exact));
       }
 
   nothing-kept : (x : Session) → x .subscriptions ≡ without (field 2 (drop dataStart (m .list))) (q .session .subscriptions)
@@ -276,7 +315,7 @@ module _ (r : Run) (h : Related r) (t s : ℕ) (m : Bytes) (lent : List ℕ) (q 
     hears-first =
         ap (λ (ms : List (List ℕ)). applyPushes ms (q .client .records)) (reply-messages (sub .id) Subscribed told told-sendable)
         ∙ ap (λ (o : Option (List Change)). applyPushes (pushMessages told) (applyPush o (q .client .records)))
-          (response-not-push (response (sub .id) Subscribed) (is-answer (sub .id) Subscribed small))
+        (response-not-push (response (sub .id) Subscribed) (is-answer (sub .id) Subscribed small))
         ∙ pushed-applied told (q .client .records) told-sendable
 
     accepted-kept : (x : Session) → x .subscriptions ≡ q .session .subscriptions ++ (sub ∷ []) → Leads (reply x sentBytes)
@@ -285,7 +324,7 @@ module _ (r : Run) (h : Related r) (t s : ℕ) (m : Bytes) (lent : List ℕ) (q 
         (record {
           subs = ap (λ (l : List Subscription). l ++ (sub ∷ [])) (q .holds .subs) ∙ sym e;
           exact = rw (hears-first, e)
-            (view-more (q .session .subscriptions) sub store (q .client .records) (h .sound .once) (q .holds .exact))
+              (view-more (q .session .subscriptions) sub store (q .client .records) (h .sound .once) (q .holds .exact));
         })
 
   -- ---- by the judgment
@@ -339,9 +378,9 @@ module _ (r : Run) (h : Related r) (t s : ℕ) (m : Bytes) (lent : List ℕ) (q 
     judgment-kept (Reconfirm parts) k = places-kept x parts same
 
   pub message-kept : Related (record {
-      state = messageOutcome (r .state) t s (m .list) lent .next;
-      observer = observe (receives t s m lent) (messageOutcome (r .state) t s (m .list) lent .answer) (messageOutcome (r .state) t s (m .list) lent .output) (r .observer)
-    })
+    state = messageOutcome (r .state) t s (m .list) lent .next;
+    observer = observe (receives t s m lent) (messageOutcome (r .state) t s (m .list) lent .answer) (messageOutcome (r .state) t s (m .list) lent .output) (r .observer);
+  })
   unfolding messageOutcome messageEffect judged
   message-kept =
       rw (q .there) (judgment-kept (withClocks (received _ t (q .session .clocks)) (q .session)) refl (judgment (m .list)) (judgment-meant (m .list)))

@@ -43,9 +43,9 @@ each s (w ∷ ws) o zero fit room =
     ∙ part-written o (s * outputSize) w (omega arith)
 each s (w ∷ ws) o (suc i) fit room =
     ap (λ (k : ℕ). part (written (suc s) ws (sets o (s * outputSize) w)) (k * outputSize) (length (getD ws i [])))
-      (add-suc s i ∙ sym (suc-add s i))
+    (add-suc s i ∙ sym (suc-add s i))
     ∙ each (suc s) ws (sets o (s * outputSize) w) i (λ (j : ℕ). fit (suc j))
-      (omega (arith, length-sets o (s * outputSize) w))
+    (omega (arith, length-sets o (s * outputSize) w))
 
 empty : (w : List ℕ) → length w ≡ 0 → [] ≡ w
 empty [] h = refl

@@ -39,9 +39,9 @@ module _ (r : Run) (h : Related r) where
   -- One place is changed on both sides, at a time.
   pub replaced : (t s : ℕ) (x : Slot) (c : Option Client) → PlaceAt (r .state .store) x c
       → Related (record {
-          state = record { zone = r .state .zone; latest = t; store = r .state .store; slots = set (r .state .slots) s x };
-          observer = withClients (set (r .observer .clients) s c) (r .observer)
-        })
+        state = record { zone = r .state .zone; latest = t; store = r .state .store; slots = set (r .state .slots) s x };
+        observer = withClients (set (r .observer .clients) s c) (r .observer);
+      })
   replaced t s x c p =
       record {
         zones = h .zones;
@@ -49,35 +49,35 @@ module _ (r : Run) (h : Related r) where
         sound = h .sound;
         slots = length-set (r .state .slots) s x ∙ h .slots;
         clients = length-set (r .observer .clients) s c ∙ h .clients;
-        places = placed (r .state .store) (r .state .slots) (r .observer .clients) (h .places) same-length s x c p
+        places = placed (r .state .store) (r .state .slots) (r .observer .clients) (h .places) same-length s x c p;
       }
 
-  open-kept : (t : ℕ) → Kept r (λ (x : Outcome). observe (opens t) (x .answer) (x .output) (r .observer)) (openOutcome (r .state) t)
+  pub open-kept : (t : ℕ) → Kept r (λ (x : Outcome). observe (opens t) (x .answer) (x .output) (r .observer)) (openOutcome (r .state) t)
   unfolding openOutcome noted bytesFor
   open-kept t = go (lowestFree (r .state .slots))
     where
       go : (o : Option ℕ)
           → Kept r (λ (x : Outcome). observe (opens t) (x .answer) (x .output) (r .observer))
-            (elim o [
-              none ↦ refuse (r .state) [] AllOpen
+          (elim o [
+            | none ↦ refuse (r .state) [] AllOpen
             | some s ↦ record {
-                answer = opened s;
-                next = record {
-                  zone = r .state .zone;
-                  latest = t;
-                  store = r .state .store;
-                  slots = set (r .state .slots) s (live (record { subscriptions = []; clocks = started t }))
-                };
-                output = []
-              }
-            ])
+              answer = opened s;
+              next = record {
+                zone = r .state .zone;
+                latest = t;
+                store = r .state .store;
+                slots = set (r .state .slots) s (live (record { subscriptions = []; clocks = started t }));
+              };
+              output = [];
+            }
+          ])
       go none = rw (refused-observed (opens t) AllOpen [] (r .observer)) h
       go (some s) =
           rw (observe-nothing (opens t) (opened s) [] (r .observer) (λ (i : ℕ). refl))
           (replaced t s (live (record { subscriptions = []; clocks = started t })) (some newborn)
           (fresh-told (r .state .store) t))
 
-  close-kept : (t s : ℕ) → Kept r (λ (x : Outcome). observe (closes t s) (x .answer) (x .output) (r .observer)) (closeOutcome (r .state) t s)
+  pub close-kept : (t s : ℕ) → Kept r (λ (x : Outcome). observe (closes t s) (x .answer) (x .output) (r .observer)) (closeOutcome (r .state) t s)
   unfolding closeOutcome noted bytesFor answerNumber
   close-kept t s =
       rw (observe-nothing (closes t s) done [] (r .observer) (λ (i : ℕ). refl)) (replaced t s free none tt)
@@ -106,7 +106,7 @@ ended-place store true x c p = tt
 ended-place store false x c p = p
 
 module _ (r : Run) (h : Related r) where
-  tick-kept : (t : ℕ) → Kept r (λ (x : Outcome). observe (ticks t) (x .answer) (x .output) (r .observer)) (tickOutcome (r .state) t)
+  pub tick-kept : (t : ℕ) → Kept r (λ (x : Outcome). observe (ticks t) (x .answer) (x .output) (r .observer)) (tickOutcome (r .state) t)
   unfolding tickOutcome noted bytesFor
   tick-kept t =
       let slots = r .state .slots in
@@ -119,6 +119,6 @@ module _ (r : Run) (h : Related r) where
         slots = length-map slots (λ (x : Slot). cond (endsAt t x) free x) ∙ h .slots;
         clients = length-goneWhere (map (endsAt t) slots) clients ∙ h .clients;
         places = λ (i : ℕ).
-          rw (List·getD-map (λ (x : Slot). cond (endsAt t x) free x) slots i free, goneWhere-at (map (endsAt t) slots) clients i, List·getD-map (endsAt t) slots i free)
-          (ended-place (r .state .store) (endsAt t (getD slots i free)) (getD slots i free) (getD clients i none) (h .places i))
+            rw (List·getD-map (λ (x : Slot). cond (endsAt t x) free x) slots i free, goneWhere-at (map (endsAt t) slots) clients i, List·getD-map (endsAt t) slots i free)
+            (ended-place (r .state .store) (endsAt t (getD slots i free)) (getD slots i free) (getD clients i none) (h .places i));
       })

@@ -16,12 +16,30 @@ use Rattle.server.specs.Answer.{Answer, refused, faultNumber, refusalNumber, an
 use Rattle.server.specs.Call.{Call, opens, closes, receives, edits, ticks}
 use Rattle.server.specs.declared.refusal.Refusal.{Refusal}
 use Rattle.server.specs.declared.refusal.Refusal.the-variants.{
-  NoSession, TimeBackwards, OutputTooShort, AllOpen, Batch, MessageTooLong, NotAName,
+  NoSession,
+  TimeBackwards,
+  OutputTooShort,
+  AllOpen,
+  Batch,
+  MessageTooLong,
+  NotAName,
 }
 use Rattle.views.specs.Reader.{bytesFor, messagesIn, orNone, isSuccess}
 use Rattle.views.specs.Observer.{
-  Client, Observer, withClients, hearing, heard, noted, observe, firstType, isAccepted, afterMessage, changeAt,
-  unsubscribing, subscribing, subscriptionIn,
+  Client,
+  Observer,
+  withClients,
+  hearing,
+  heard,
+  noted,
+  observe,
+  firstType,
+  isAccepted,
+  afterMessage,
+  changeAt,
+  unsubscribing,
+  subscribing,
+  subscriptionIn,
 }
 
 pub messagesIn-nil : messagesIn [] ≡ []

@@ -58,8 +58,8 @@ module _ (s : ℕ) (inside : s < maxSessions) (w output : List ℕ) (fits : leng
       ext-getD none (heard 0 answer after cl) (set cl s (Option·map (hearing w) (getD cl s none)))
       (length-heard 0 answer after cl ∙ sym (length-set cl s (Option·map (hearing w) (getD cl s none))))
       (λ (i : ℕ) (h : i < length (heard 0 answer after cl)). heard-at 0 answer after cl i
-        ∙ ap (λ (k : ℕ). Option·map (hearing (bytesFor answer after k)) (getD cl i none)) (zero-add i)
-        ∙ ⊎-elim (own i) (other i) (decided (eqb i s)))
+      ∙ ap (λ (k : ℕ). Option·map (hearing (bytesFor answer after k)) (getD cl i none)) (zero-add i)
+      ∙ ⊎-elim (own i) (other i) (decided (eqb i s)))
     where
       own : (i : ℕ) → eqb i s ≡ true
           → Option·map (hearing (bytesFor answer after i)) (getD cl i none) ≡ getD (set cl s (Option·map (hearing w) (getD cl s none))) i none

@@ -1,5 +1,5 @@
 -- Demand 3 (01, "Demand 3 over whole lists"), as a statement about the state and the observer after any list of calls.
-use Prim.Native.Nat.{ℕ, _≤_}
+use Prim.Native.Nat.{ℕ}
 use mathlib.Core.Bool.{Bool, true, false, _||_}
 use mathlib.Core.List.{List, [], _∷_}
 use mathlib.Core.Option.{Option, none, some}
@@ -11,8 +11,9 @@ use Rattle.zone.specs.Match.{Subscription, view}
 use Rattle.zone.specs.Sound.{Exactly}
 use Rattle.push.specs.Change.{Change}
 use Rattle.push.specs.List.{changes}
+use Rattle.push.specs.Measure.{Right}
 use Rattle.server.specs.Answer.{Answer, answerNumber}
-use Rattle.server.specs.State.{State}
+use Rattle.server.specs.State.{State, Slot, free, live}
 use Rattle.server.specs.Call.{Call, opens, closes, receives, edits, ticks, Outcome, outcome}
 use Rattle.views.specs.Reader.{bytesFor, pushesIn}
 use Rattle.views.specs.Observer.{Client, Observer, watching, observe}
@@ -30,7 +31,7 @@ unfoldable pub stepped : Run → Call → Run
 stepped r c =
     record {
       state = outcome (r .state) c .next;
-      observer = observe c (outcome (r .state) c .answer) (outcome (r .state) c .output) (r .observer)
+      observer = observe c (outcome (r .state) c .answer) (outcome (r .state) c .output) (r .observer);
     }
 
 unfoldable pub runOf : Run → List Call → Run
@@ -46,10 +47,42 @@ abbrev pub inOne : List Change → List (List Change)
 inOne [] = []
 inOne (c ∷ cs) = (c ∷ cs) ∷ []
 
--- Whether a call is a batch that was carried out.
+-- Whether a call is a batch that was carried out: "Batch answered 1 or 2".
 abbrev pub isBatch : Call → Bool
 isBatch (opens t) = false
 isBatch (closes t s) = false
 isBatch (receives t s m output) = false
 isBatch (edits t b output) = true
 isBatch (ticks t) = false
+
+abbrev pub isDone : Answer → Bool
+isDone a = eqb (answerNumber a) 1 || eqb (answerNumber a) 2
+
+-- What a batch tells a client, from the bytes written for its session: "they are the list fixed above, in one PUSH, or none if it
+-- is empty"; it is right, and no other list that does the same is shorter. The views are read from the observer, before and
+-- after the call.
+pub record Pushed (before after : List Record) (subs : List Subscription) (bytes : List ℕ) : Type 0 where
+  pub told : pushesIn bytes ≡ some (inOne (changes after (view subs before) (view subs after)))
+  pub right : Right after (view subs before) (view subs after)
+
+abbrev pub isOpen : Slot → Bool
+isOpen free = false
+isOpen (live x) = true
+
+abbrev pub isLiving : Option Client → Bool
+isLiving none = false
+isLiving (some c) = true
+
+-- Demand 3, of a run and the next call.
+pub record Holds (r : Run) (c : Call) : Type 0 where
+  -- After the call each client has just its view.
+  pub views : Faithful (stepped r c .observer)
+  -- The sessions that live for the observer are those that are open.
+  pub living : (s : ℕ) → isLiving (getD (stepped r c .observer .clients) s none) ≡ isOpen (getD (stepped r c .state .slots) s free)
+  -- The stores are the same.
+  pub stores : stepped r c .observer .store ≡ stepped r c .state .store
+  -- After a batch that is carried out each client is told the right list.
+  pub pushed : isBatch c ≡ true → isDone (outcome (r .state) c .answer) ≡ true → (s : ℕ) (x : Client)
+      → getD (r .observer .clients) s none ≡ some x
+      → Pushed (r .observer .store) (stepped r c .observer .store) (x .subscriptions)
+      (bytesFor (outcome (r .state) c .answer) (outcome (r .state) c .output) s)

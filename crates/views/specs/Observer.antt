@@ -18,7 +18,16 @@ use Rattle.push.specs.Change.{Change, appliedAll}
 use Rattle.push.specs.Frames.{pushIn}
 use Rattle.session.specs.Subscriptions.{without}
 use Rattle.server.specs.Answer.{
-  Answer, done, opened, ended, sent, notOurs, aborted, reconfirm, refused, answerNumber,
+  Answer,
+  done,
+  opened,
+  ended,
+  sent,
+  notOurs,
+  aborted,
+  reconfirm,
+  refused,
+  answerNumber,
 }
 use Rattle.server.specs.Call.{Call, opens, closes, receives, edits, ticks}
 use Rattle.server.specs.State.{maxSessions}
@@ -84,7 +93,7 @@ named m (some n) =
       id = messageId m;
       owner = take n (drop dataStart m);
       rrtype = field 2 (drop (dataStart + n) m);
-      rrclass = field 2 (drop (dataStart + n + 2) m)
+      rrclass = field 2 (drop (dataStart + n + 2) m);
     }
 
 unfoldable pub subscriptionIn : List ℕ → Subscription
@@ -99,7 +108,7 @@ abbrev pub unsubscribing : ℕ → Client → Client
 unsubscribing id c =
     record {
       subscriptions = without id (c .subscriptions);
-      records = keep (wanted (without id (c .subscriptions))) (c .records)
+      records = keep (wanted (without id (c .subscriptions))) (c .records);
     }
 
 abbrev pub firstType : List ℕ → ℕ
@@ -126,7 +135,7 @@ afterBatch a bytes o =
     record {
       zone = o .zone;
       store = cond (eqb (answerNumber a) 1 || eqb (answerNumber a) 2) (storedOr (o .store) (batchOf (o .zone) bytes (o .store))) (o .store);
-      clients = o .clients
+      clients = o .clients;
     }
 
 -- What a call, its answer and the output slice as it left it say; all else, refusals too: nothing.
