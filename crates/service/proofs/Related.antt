@@ -16,11 +16,11 @@ use Rattle.zone.specs.Record.{Record}
 use Rattle.zone.specs.Match.{Subscription, view}
 use Rattle.zone.specs.Sound.{Exactly, Sound}
 use Rattle.zone.proofs.Lists.{decided}
-use Rattle.server.specs.State.{State, Session, Slot, free, live, maxSessions}
-use Rattle.server.specs.Answer.{Answer}
-use Rattle.views.specs.Reader.{bytesFor}
-use Rattle.views.specs.Observer.{Client, Observer, hearing, heard}
-use Rattle.views.specs.Demand.{Run}
+use Rattle.service.specs.State.{State, Session, Slot, free, live, maxSessions}
+use Rattle.service.specs.Answer.{Answer}
+use Rattle.service.specs.Reader.{bytesFor}
+use Rattle.service.specs.Observer.{Client, Observer, hearing, heard}
+use Rattle.service.specs.Demand.{Run}
 
 pub record Told (store : List Record) (x : Session) (c : Client) : Type 0 where
   pub subs : c .subscriptions ≡ x .subscriptions

@@ -22,13 +22,13 @@ use Rattle.push.specs.Octets.{pushOf}
 use Rattle.push.specs.Frames.{framesIn}
 use Rattle.push.proofs.Framing.{Sendable, pushMessages, framesIn-pushOf, pushIn-changes}
 use Rattle.push.proofs.Plains.{changes-plain, sendable, length-pushOf-le}
-use Rattle.server.specs.State.{State, Session, Slot, free, live, maxSessions}
-use Rattle.server.specs.Answer.{Answer, done, sent, answerNumber}
-use Rattle.server.specs.Checks.{outputSize, leastOutput}
-use Rattle.server.specs.Call.{Bytes, edits, Outcome, batchOutcome, pushTo, told, written, refuse}
-use Rattle.server.specs.declared.refusal.Refusal.the-variants.{Batch}
-use Rattle.views.specs.Reader.{bytesFor, messagesIn, orNone, allPushes, pushesIn, pushesOf}
-use Rattle.views.specs.Observer.{
+use Rattle.service.specs.State.{State, Session, Slot, free, live, maxSessions}
+use Rattle.service.specs.Answer.{Answer, done, sent, answerNumber}
+use Rattle.service.specs.Checks.{outputSize, leastOutput}
+use Rattle.service.specs.Call.{Bytes, edits, Outcome, batchOutcome, pushTo, told, written, refuse}
+use Rattle.service.specs.declared.refusal.Refusal.the-variants.{Batch}
+use Rattle.service.specs.Reader.{bytesFor, messagesIn, orNone, allPushes, pushesIn, pushesOf}
+use Rattle.service.specs.Observer.{
   Client,
   Observer,
   noted,
@@ -39,11 +39,11 @@ use Rattle.views.specs.Observer.{
   applyPush,
   applyPushes,
 }
-use Rattle.views.specs.Demand.{Run, inOne}
-use Rattle.views.proofs.Outputs.{bytes-told}
-use Rattle.views.proofs.Related.{Told, PlaceAt, Related, length-heard, heard-at}
-use Rattle.views.proofs.Quiet.{messagesIn-nil, refused-observed}
-use Rattle.views.proofs.Plain.{Kept}
+use Rattle.service.specs.Demand.{Run, inOne}
+use Rattle.service.proofs.Outputs.{bytes-told}
+use Rattle.service.proofs.Related.{Told, PlaceAt, Related, length-heard, heard-at}
+use Rattle.service.proofs.Quiet.{messagesIn-nil, refused-observed}
+use Rattle.service.proofs.Plain.{Kept}
 
 -- ---- a PUSH is heard as the changes that it was written for
 

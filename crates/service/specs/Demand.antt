@@ -12,11 +12,11 @@ use Rattle.zone.specs.Sound.{Exactly}
 use Rattle.push.specs.Change.{Change}
 use Rattle.push.specs.List.{changes}
 use Rattle.push.specs.Measure.{Right}
-use Rattle.server.specs.Answer.{Answer, answerNumber}
-use Rattle.server.specs.State.{State, Slot, free, live}
-use Rattle.server.specs.Call.{Call, opens, closes, receives, edits, ticks, Outcome, outcome}
-use Rattle.views.specs.Reader.{bytesFor, pushesIn}
-use Rattle.views.specs.Observer.{Client, Observer, watching, observe}
+use Rattle.service.specs.Answer.{Answer, answerNumber}
+use Rattle.service.specs.State.{State, Slot, free, live}
+use Rattle.service.specs.Call.{Call, opens, closes, receives, edits, ticks, Outcome, outcome}
+use Rattle.service.specs.Reader.{bytesFor, pushesIn}
+use Rattle.service.specs.Observer.{Client, Observer, watching, observe}
 
 -- A run: the server's state, and the observer beside it.
 pub record Run : Type 0 where

@@ -16,8 +16,8 @@ use Rattle.zone.specs.Batch.{batchOf, Edited, stored, faulty}
 use Rattle.push.specs.List.{changes}
 use Rattle.push.specs.Octets.{pushOf}
 use Rattle.session.specs.Clocks.{started, expired}
-use Rattle.server.specs.State.{State, Session, Slot, free, live, slotAt, maxSessions, fresh, lowestFree}
-use Rattle.server.specs.Answer.{
+use Rattle.service.specs.State.{State, Session, Slot, free, live, slotAt, maxSessions, fresh, lowestFree}
+use Rattle.service.specs.Answer.{
   Answer,
   done,
   opened,
@@ -28,8 +28,8 @@ use Rattle.server.specs.Answer.{
   reconfirm,
   refused,
 }
-use Rattle.server.specs.Checks.{Brought, refusalOf, outputSize}
-use Rattle.server.specs.Message.{
+use Rattle.service.specs.Checks.{Brought, refusalOf, outputSize}
+use Rattle.service.specs.Message.{
   Effect,
   abort,
   nothing,
@@ -38,8 +38,8 @@ use Rattle.server.specs.Message.{
   places,
   messageEffect,
 }
-use Rattle.server.specs.declared.refusal.Refusal.{Refusal}
-use Rattle.server.specs.declared.refusal.Refusal.the-variants.{AllOpen, Batch, NotAName}
+use Rattle.service.specs.declared.refusal.Refusal.{Refusal}
+use Rattle.service.specs.declared.refusal.Refusal.the-variants.{AllOpen, Batch, NotAName}
 
 -- A string of bytes: each is below 256.
 pub record Bytes : Type 0 where

@@ -13,10 +13,10 @@ use Rattle.wire.specs.Part.{part}
 use Rattle.wire.proofs.Writes.{part-before, part-written}
 use Rattle.zone.specs.Lists.{allOf}
 use Rattle.zone.proofs.Lists.{and-left, and-right}
-use Rattle.server.specs.Answer.{Answer, done, sent}
-use Rattle.server.specs.Checks.{outputSize}
-use Rattle.server.specs.Call.{written, told}
-use Rattle.views.specs.Reader.{countFor, bytesFor}
+use Rattle.service.specs.Answer.{Answer, done, sent}
+use Rattle.service.specs.Checks.{outputSize}
+use Rattle.service.specs.Call.{written, told}
+use Rattle.service.specs.Reader.{countFor, bytesFor}
 
 pub length-written : (s : ℕ) (ws : List (List ℕ)) (o : List ℕ) → length (written s ws o) ≡ length o
 unfolding written

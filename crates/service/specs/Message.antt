@@ -32,7 +32,7 @@ use Rattle.push.specs.Octets.{pushOf}
 use Rattle.session.specs.declared.clocks.Clocks.{Clocks}
 use Rattle.session.specs.Clocks.{received, granted}
 use Rattle.session.specs.Subscriptions.{usesId, asksAlready, isFull, without}
-use Rattle.server.specs.State.{Session}
+use Rattle.service.specs.State.{Session}
 
 -- What becomes of a session: it is aborted, or it goes on with an answer. `nothing` is answer 1, `reply` answer 2 with the
 -- bytes written for it, `others` answer 3, `places` answer 5.

@@ -8,8 +8,8 @@ use lib.Dec.{eqb}
 use Rattle.dso.specs.Header.{isResponse, rcode}
 use Rattle.push.specs.Change.{Change}
 use Rattle.push.specs.Frames.{framesIn, pushIn}
-use Rattle.server.specs.Answer.{Answer, done, opened, ended, sent, notOurs, aborted, reconfirm, refused}
-use Rattle.server.specs.Checks.{outputSize}
+use Rattle.service.specs.Answer.{Answer, done, opened, ended, sent, notOurs, aborted, reconfirm, refused}
+use Rattle.service.specs.Checks.{outputSize}
 
 -- How many bytes an answer states for a session: "the stated count of bytes stands at each shelf's start" (answer 2).
 abbrev pub countFor : Answer → ℕ → ℕ

@@ -5,10 +5,10 @@ use mathlib.Core.Option.{Option, none, some}
 use mathlib.Core.Path.{_≡_, refl}
 use native.Mathlib.Omega.{arith}
 use lib.Dec.{ltb}
-use Rattle.server.specs.State.{State}
-use Rattle.server.specs.Checks.{Brought, isShort, isAbsent, isLong, refusalOf}
-use Rattle.server.specs.declared.refusal.Refusal.{Refusal}
-use Rattle.server.specs.declared.refusal.Refusal.the-variants.{
+use Rattle.service.specs.State.{State}
+use Rattle.service.specs.Checks.{Brought, isShort, isAbsent, isLong, refusalOf}
+use Rattle.service.specs.declared.refusal.Refusal.{Refusal}
+use Rattle.service.specs.declared.refusal.Refusal.the-variants.{
   NoSession,
   TimeBackwards,
   OutputTooShort,

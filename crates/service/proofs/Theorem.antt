@@ -18,10 +18,10 @@ use Rattle.push.specs.List.{changes}
 use Rattle.push.specs.Octets.{pushOf}
 use Rattle.push.specs.Change.{appliedAll}
 use Rattle.push.proofs.Quoted.{AfterBatch, after-batch}
-use Rattle.server.specs.State.{State, Session, Slot, free, live, maxSessions, fresh}
-use Rattle.server.specs.Answer.{Answer, refused}
-use Rattle.server.specs.Checks.{refusalOf, leastOutput}
-use Rattle.server.specs.Call.{
+use Rattle.service.specs.State.{State, Session, Slot, free, live, maxSessions, fresh}
+use Rattle.service.specs.Answer.{Answer, refused}
+use Rattle.service.specs.Checks.{refusalOf, leastOutput}
+use Rattle.service.specs.Call.{
   Bytes,
   Call,
   opens,
@@ -44,11 +44,11 @@ use Rattle.server.specs.Call.{
   told,
   written,
 }
-use Rattle.server.specs.declared.refusal.Refusal.{Refusal}
-use Rattle.server.specs.declared.refusal.Refusal.the-variants.{Batch, NotAName}
-use Rattle.views.specs.Reader.{bytesFor, pushesIn}
-use Rattle.views.specs.Observer.{Client, Observer, watching, observe}
-use Rattle.views.specs.Demand.{
+use Rattle.service.specs.declared.refusal.Refusal.{Refusal}
+use Rattle.service.specs.declared.refusal.Refusal.the-variants.{Batch, NotAName}
+use Rattle.service.specs.Reader.{bytesFor, pushesIn}
+use Rattle.service.specs.Observer.{Client, Observer, watching, observe}
+use Rattle.service.specs.Demand.{
   Run,
   begun,
   stepped,
@@ -62,12 +62,12 @@ use Rattle.views.specs.Demand.{
   isLiving,
   Holds,
 }
-use Rattle.views.proofs.Related.{Told, PlaceAt, Related}
-use Rattle.views.proofs.Quiet.{refused-observed, refusal-not}
-use Rattle.views.proofs.Checks.{Passed, checks-passed}
-use Rattle.views.proofs.Plain.{open-kept, close-kept, tick-kept}
-use Rattle.views.proofs.Batch.{carried-kept, bytes-at, list-sendable, pushesIn-push}
-use Rattle.views.proofs.Message.{meets, message-kept}
+use Rattle.service.proofs.Related.{Told, PlaceAt, Related}
+use Rattle.service.proofs.Quiet.{refused-observed, refusal-not}
+use Rattle.service.proofs.Checks.{Passed, checks-passed}
+use Rattle.service.proofs.Plain.{open-kept, close-kept, tick-kept}
+use Rattle.service.proofs.Batch.{carried-kept, bytes-at, list-sendable, pushesIn-push}
+use Rattle.service.proofs.Message.{meets, message-kept}
 
 -- ---- every call keeps the relation
 

@@ -13,13 +13,13 @@ use lib.Dec.{eqb}
 use borrow.Author.Tests.{eqb-true, eqb-false}
 use Rattle.wire.proofs.Writes.{part-written}
 use Rattle.zone.proofs.Lists.{decided}
-use Rattle.server.specs.State.{maxSessions}
-use Rattle.server.specs.Answer.{Answer, sent}
-use Rattle.server.specs.Checks.{outputSize, leastOutput}
-use Rattle.views.specs.Reader.{bytesFor}
-use Rattle.views.specs.Observer.{Client, hearing, heard}
-use Rattle.views.proofs.Related.{length-heard, heard-at}
-use Rattle.views.proofs.Quiet.{hearing-nothing}
+use Rattle.service.specs.State.{maxSessions}
+use Rattle.service.specs.Answer.{Answer, sent}
+use Rattle.service.specs.Checks.{outputSize, leastOutput}
+use Rattle.service.specs.Reader.{bytesFor}
+use Rattle.service.specs.Observer.{Client, hearing, heard}
+use Rattle.service.proofs.Related.{length-heard, heard-at}
+use Rattle.service.proofs.Quiet.{hearing-nothing}
 
 zeros : (n i : ℕ) → _≡_ {A = ℕ} (getD (replicate n 0) i 0) 0
 zeros zero i = refl

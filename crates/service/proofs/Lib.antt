@@ -1,4 +1,4 @@
--- Laws about the observer, and the theorem.
+-- Demand 3 over whole lists of calls: what each call keeps, and the theorem.
 pub mod Outputs
 pub mod Related
 pub mod Quiet

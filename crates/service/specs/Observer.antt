@@ -17,7 +17,7 @@ use Rattle.zone.specs.Batch.{Edited, stored, faulty, batchOf}
 use Rattle.push.specs.Change.{Change, appliedAll}
 use Rattle.push.specs.Frames.{pushIn}
 use Rattle.session.specs.Subscriptions.{without}
-use Rattle.server.specs.Answer.{
+use Rattle.service.specs.Answer.{
   Answer,
   done,
   opened,
@@ -29,9 +29,9 @@ use Rattle.server.specs.Answer.{
   refused,
   answerNumber,
 }
-use Rattle.server.specs.Call.{Call, opens, closes, receives, edits, ticks}
-use Rattle.server.specs.State.{maxSessions}
-use Rattle.views.specs.Reader.{bytesFor, messagesIn, isSuccess}
+use Rattle.service.specs.Call.{Call, opens, closes, receives, edits, ticks}
+use Rattle.service.specs.State.{maxSessions}
+use Rattle.service.specs.Reader.{bytesFor, messagesIn, isSuccess}
 
 -- A living session: its live subscriptions, and its client's records.
 pub record Client : Type 0 where

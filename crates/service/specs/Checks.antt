@@ -3,9 +3,9 @@ use Prim.Native.Nat.{ℕ}
 use mathlib.Core.Bool.{Bool, true, false, cond, _||_}
 use mathlib.Core.Option.{Option, none, some}
 use lib.Dec.{leb, ltb}
-use Rattle.server.specs.State.{State, Slot, free, live, slotAt, maxSessions}
-use Rattle.server.specs.declared.refusal.Refusal.{Refusal}
-use Rattle.server.specs.declared.refusal.Refusal.the-variants.{
+use Rattle.service.specs.State.{State, Slot, free, live, slotAt, maxSessions}
+use Rattle.service.specs.declared.refusal.Refusal.{Refusal}
+use Rattle.service.specs.declared.refusal.Refusal.the-variants.{
   NoSession,
   TimeBackwards,
   OutputTooShort,

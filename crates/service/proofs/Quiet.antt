@@ -12,10 +12,10 @@ use Rattle.zone.specs.declared.BatchFault.the-variants.{TooManyEdits, Unreadabl
 use Rattle.push.specs.Frames.{framesIn}
 use Rattle.push.proofs.Framing.{framesIn-nil}
 use Rattle.dso.specs.Judge.{subscribeType}
-use Rattle.server.specs.Answer.{Answer, refused, faultNumber, refusalNumber, answerNumber}
-use Rattle.server.specs.Call.{Call, opens, closes, receives, edits, ticks}
-use Rattle.server.specs.declared.refusal.Refusal.{Refusal}
-use Rattle.server.specs.declared.refusal.Refusal.the-variants.{
+use Rattle.service.specs.Answer.{Answer, refused, faultNumber, refusalNumber, answerNumber}
+use Rattle.service.specs.Call.{Call, opens, closes, receives, edits, ticks}
+use Rattle.service.specs.declared.refusal.Refusal.{Refusal}
+use Rattle.service.specs.declared.refusal.Refusal.the-variants.{
   NoSession,
   TimeBackwards,
   OutputTooShort,
@@ -24,8 +24,8 @@ use Rattle.server.specs.declared.refusal.Refusal.the-variants.{
   MessageTooLong,
   NotAName,
 }
-use Rattle.views.specs.Reader.{bytesFor, messagesIn, orNone, isSuccess}
-use Rattle.views.specs.Observer.{
+use Rattle.service.specs.Reader.{bytesFor, messagesIn, orNone, isSuccess}
+use Rattle.service.specs.Observer.{
   Client,
   Observer,
   withClients,

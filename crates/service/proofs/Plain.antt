@@ -12,15 +12,15 @@ use Rattle.zone.specs.Store.{find}
 use Rattle.zone.specs.Sound.{distinct, Exactly}
 use Rattle.zone.proofs.Views.{find-view}
 use Rattle.session.specs.Clocks.{started}
-use Rattle.server.specs.State.{State, Session, Slot, free, live, lowestFree}
-use Rattle.server.specs.Answer.{Answer, done, opened, ended, refused, answerNumber}
-use Rattle.server.specs.Call.{opens, closes, ticks, Outcome, openOutcome, closeOutcome, tickOutcome, endsAt, refuse}
-use Rattle.server.specs.declared.refusal.Refusal.the-variants.{AllOpen}
-use Rattle.views.specs.Reader.{bytesFor}
-use Rattle.views.specs.Observer.{Client, Observer, newborn, withClients, noted, observe, goneWhere}
-use Rattle.views.specs.Demand.{Run}
-use Rattle.views.proofs.Related.{Told, PlaceAt, Related, placed}
-use Rattle.views.proofs.Quiet.{observe-nothing, refused-observed}
+use Rattle.service.specs.State.{State, Session, Slot, free, live, lowestFree}
+use Rattle.service.specs.Answer.{Answer, done, opened, ended, refused, answerNumber}
+use Rattle.service.specs.Call.{opens, closes, ticks, Outcome, openOutcome, closeOutcome, tickOutcome, endsAt, refuse}
+use Rattle.service.specs.declared.refusal.Refusal.the-variants.{AllOpen}
+use Rattle.service.specs.Reader.{bytesFor}
+use Rattle.service.specs.Observer.{Client, Observer, newborn, withClients, noted, observe, goneWhere}
+use Rattle.service.specs.Demand.{Run}
+use Rattle.service.proofs.Related.{Told, PlaceAt, Related, placed}
+use Rattle.service.proofs.Quiet.{observe-nothing, refused-observed}
 
 -- What a call leads to, from its outcome.
 abbrev pub Kept : Run → (Outcome → Observer) → Outcome → Type 0

@@ -60,10 +60,10 @@ use Rattle.push.proofs.Plains.{first-sendable, first-room}
 use Rattle.push.proofs.Subscribing.{view-more}
 use Rattle.session.specs.Clocks.{received}
 use Rattle.session.specs.Subscriptions.{usesId, asksAlready, isFull, without}
-use Rattle.server.specs.State.{State, Session, Slot, free, live, slotAt, maxSessions}
-use Rattle.server.specs.Answer.{Answer, done, sent, notOurs, aborted, reconfirm, answerNumber}
-use Rattle.server.specs.Checks.{outputSize, leastOutput, isFree}
-use Rattle.server.specs.Message.{
+use Rattle.service.specs.State.{State, Session, Slot, free, live, slotAt, maxSessions}
+use Rattle.service.specs.Answer.{Answer, done, sent, notOurs, aborted, reconfirm, answerNumber}
+use Rattle.service.specs.Checks.{outputSize, leastOutput, isFree}
+use Rattle.service.specs.Message.{
   Effect,
   abort,
   nothing,
@@ -78,9 +78,9 @@ use Rattle.server.specs.Message.{
   answered,
   messageEffect,
 }
-use Rattle.server.specs.Call.{Bytes, receives, brought, Outcome, effectOutcome, messageOutcome, effectAt}
-use Rattle.views.specs.Reader.{bytesFor, messagesIn, orNone, isSuccess}
-use Rattle.views.specs.Observer.{
+use Rattle.service.specs.Call.{Bytes, receives, brought, Outcome, effectOutcome, messageOutcome, effectAt}
+use Rattle.service.specs.Reader.{bytesFor, messagesIn, orNone, isSuccess}
+use Rattle.service.specs.Observer.{
   Client,
   Observer,
   withClients,
@@ -98,13 +98,13 @@ use Rattle.views.specs.Observer.{
   subscriptionIn,
   named,
 }
-use Rattle.views.specs.Demand.{Run}
-use Rattle.views.proofs.Related.{Told, PlaceAt, Related}
-use Rattle.views.proofs.Quiet.{observe-nothing, nothing-accepted}
-use Rattle.views.proofs.Checks.{Passed}
-use Rattle.views.proofs.Plain.{replaced}
-use Rattle.views.proofs.Batch.{pushed-applied}
-use Rattle.views.proofs.Replies.{counts, bytes-own, heard-own}
+use Rattle.service.specs.Demand.{Run}
+use Rattle.service.proofs.Related.{Told, PlaceAt, Related}
+use Rattle.service.proofs.Quiet.{observe-nothing, nothing-accepted}
+use Rattle.service.proofs.Checks.{Passed}
+use Rattle.service.proofs.Plain.{replaced}
+use Rattle.service.proofs.Batch.{pushed-applied}
+use Rattle.service.proofs.Replies.{counts, bytes-own, heard-own}
 
 -- ---- replies as the observer reads them
 
