@@ -2,3 +2,7 @@
 mod clocks;
 
 pub use clocks::Clocks;
+pub use clocks::expired;
+pub use clocks::granted;
+pub use clocks::received;
+pub use clocks::started;

@@ -1,0 +1,2 @@
+-- Laws of a session's clocks and of its table of subscriptions.
+pub mod Timeouts
