@@ -2,3 +2,5 @@
 pub mod Change
 pub mod List
 pub mod Octets
+pub mod Plain
+pub mod Frames

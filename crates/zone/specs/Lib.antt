@@ -5,4 +5,5 @@ pub mod Store
 pub mod Match
 pub mod Layout
 pub mod Batch
+pub mod Fits
 pub mod Sound

@@ -1,0 +1,4 @@
+-- Laws of change notifications.
+pub mod ReadBack
+pub mod Framing
+pub mod Plains
