@@ -1,2 +1,3 @@
 -- Laws of a session's clocks and of its table of subscriptions.
 pub mod Timeouts
+pub mod Table

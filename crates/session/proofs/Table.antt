@@ -1,0 +1,219 @@
+-- Laws of the table of subscriptions: what stands in a block, how many there are, and how a search goes through them.
+use Prim.Native.Nat.{ℕ, zero, suc, _+_, _-_, _*_, min, _≤_, _<_}
+use mathlib.Core.Path.{_≡_, refl, sym, ap, ap₂, _∙_}
+use mathlib.Core.Bool.{Bool, true, false, cond, not, _&&_, _||_}
+use mathlib.Core.List.{List, [], _∷_, _++_, map}
+use native.Mathlib.Nat.{zero-add, suc-add, add-zero}
+use native.Mathlib.Numerals.{add-one}
+use native.Mathlib.Omega.{arith}
+use lib.ListN.{length, take, drop, getD, length-map, drop-of-length-le, List·getD-map}
+use lib.Seq.{take-nil, take-take, drop-drop, drop-cons, getD-take, getD-drop}
+use lib.Dec.{leb, eqb}
+use borrow.Author.Tests.{eq-eqb, ne-eqb, le-leb, lt-leb, leb-true, leb-false}
+use Rattle.wire.specs.Field.{field}
+use Rattle.wire.specs.Name.{sameName, sameOctets, lowered}
+use Rattle.wire.specs.Part.{part}
+use Rattle.wire.proofs.Fields.{field-take-le}
+use Rattle.table.specs.Blocks.{blocks}
+use Rattle.table.proofs.Blocks.{length-blocks, blocks-at}
+use Rattle.zone.specs.Lists.{anyOf}
+use Rattle.zone.specs.Match.{Subscription, any, cname, matchesKey, matches}
+use Rattle.session.specs.Subscriptions.{maxSubscriptions, usesId, sameQuestion, asksAlready, isFull}
+use Rattle.session.specs.Table.{blockSize, subOf, subscriptionsOf, subscription, recordAsked, asksFor}
+
+-- ---- one block
+
+drop-take : (n m : ℕ) (l : List ℕ) → drop n (take (n + m) l) ≡ take m (drop n l)
+drop-take zero m l = ap (λ (k : ℕ). take k l) (zero-add m)
+drop-take (suc n) m [] = ap (λ (k : ℕ). drop (suc n) (take k [])) (suc-add n m) ∙ sym (take-nil m)
+drop-take (suc n) m (x ∷ l) = ap (λ (k : ℕ). drop (suc n) (take k (x ∷ l))) (suc-add n m) ∙ drop-take n m l
+
+-- What lies from place k of a block on, by its place in the memory.
+block-from : (a : List ℕ) (at k m : ℕ) → k + m ≡ blockSize → drop k (part a at blockSize) ≡ take m (drop (at + k) a)
+block-from a at k m h =
+    ap (λ (n : ℕ). drop k (take n (drop at a))) (sym h) ∙ drop-take k m (drop at a) ∙ ap (take m) (drop-drop k at a)
+
+module _ (a : List ℕ) (at : ℕ) where
+  pub block-id : field 2 (drop at a) ≡ subOf (part a at blockSize) .id
+  unfolding subOf
+  block-id = sym (field-take-le 2 blockSize (drop at a) (omega arith))
+
+  pub block-type : field 2 (drop (at + 2) a) ≡ subOf (part a at blockSize) .rrtype
+  unfolding subOf
+  block-type = sym (ap (field 2) (block-from a at 2 260 refl) ∙ field-take-le 2 260 (drop (at + 2) a) (omega arith))
+
+  pub block-class : field 2 (drop (at + 4) a) ≡ subOf (part a at blockSize) .rrclass
+  unfolding subOf
+  block-class = sym (ap (field 2) (block-from a at 4 258 refl) ∙ field-take-le 2 258 (drop (at + 4) a) (omega arith))
+
+  pub block-owner : getD a (at + 6) 0 < 256
+      → take (at + 7 + getD a (at + 6) 0 - (at + 7)) (drop (at + 7) a) ≡ subOf (part a at blockSize) .owner
+  unfolding subOf
+  block-owner h =
+      let n : ℕ = getD a (at + 6) 0 in
+      let e : at + 7 + n - (at + 7) ≡ n = omega arith in
+      let o : getD (part a at blockSize) 6 0 ≡ n = getD-take blockSize (drop at a) 6 0 (omega arith) ∙ getD-drop at a 6 0 in
+      ap (λ (k : ℕ). take k (drop (at + 7) a)) e ∙ sym (ap₂ (λ (k : ℕ) (l : List ℕ). take k l) o (block-from a at 7 255 refl)
+      ∙ take-take n 255 (drop (at + 7) a) (omega arith))
+
+-- ---- what a block asks for
+
+or-true : (a : Bool) → a || true ≡ true
+or-true true = refl
+or-true false = refl
+
+or-false : (a : Bool) → a || false ≡ a
+or-false true = refl
+or-false false = refl
+
+and-false : (a : Bool) → a && false ≡ false
+and-false true = refl
+and-false false = refl
+
+and-true : (a : Bool) → a && true ≡ a
+and-true true = refl
+and-true false = refl
+
+module _ (asked held : ℕ) where
+  pub asks-any : asked ≡ any → true ≡ eqb asked any || eqb asked held
+  asks-any h = sym (ap (λ (t : Bool). t || eqb asked held) (eq-eqb asked any h))
+
+  pub asks-one : (asked ≡ any → ⊥) → eqb asked held ≡ eqb asked any || eqb asked held
+  asks-one h = sym (ap (λ (t : Bool). t || eqb asked held) (ne-eqb asked any h))
+
+module _ (qtype qclass rrtype rrclass : ℕ) (c : Bool) (e : c ≡ eqb qclass any || eqb qclass rrclass) where
+  type-asked : Bool
+  type-asked = eqb qtype any || eqb qtype rrtype || eqb rrtype cname
+
+  pub class-unasked : c ≡ false → false ≡ asksFor qtype qclass rrtype rrclass
+  unfolding asksFor type-asked
+  class-unasked h = ap (λ (t : Bool). t && type-asked) (sym h ∙ e)
+
+  pub class-asked : c ≡ true → asksFor qtype qclass rrtype rrclass ≡ eqb qtype any || eqb qtype rrtype || eqb rrtype cname
+  unfolding asksFor type-asked
+  class-asked h = ap (λ (t : Bool). t && type-asked) (sym e ∙ h)
+
+  pub asks-cname : c ≡ true → rrtype ≡ cname → true ≡ asksFor qtype qclass rrtype rrclass
+  asks-cname h k =
+      sym (class-asked h ∙ ap (λ (t : Bool). eqb qtype any || eqb qtype rrtype || t) (eq-eqb rrtype cname k)
+      ∙ or-true (eqb qtype any || eqb qtype rrtype))
+
+  pub asks-type : c ≡ true → (rrtype ≡ cname → ⊥) → (t : Bool) → t ≡ eqb qtype any || eqb qtype rrtype
+      → t ≡ asksFor qtype qclass rrtype rrclass
+  asks-type h k t f =
+      f ∙ sym (class-asked h ∙ ap (λ (t : Bool). eqb qtype any || eqb qtype rrtype || t) (ne-eqb rrtype cname k)
+      ∙ or-false (eqb qtype any || eqb qtype rrtype))
+
+-- Matching is the names being the same and the type and class being asked for.
+pub matches-split : (s : Subscription) (name : List ℕ) (rrtype rrclass : ℕ)
+    → matches s (recordAsked name rrtype rrclass) ≡ asksFor (s .rrtype) (s .rrclass) rrtype rrclass && sameName (s .owner) name
+unfolding matchesKey asksFor sameName
+matches-split s name rrtype rrclass =
+    turned (sameOctets (lowered (s .owner)) (lowered name)) (eqb (s .rrclass) any || eqb (s .rrclass) rrclass)
+    (eqb (s .rrtype) any || eqb (s .rrtype) rrtype || eqb rrtype cname)
+  where
+    turned : (a b c : Bool) → a && b && c ≡ b && c && a
+    turned a true true = and-true (a && true) ∙ and-true a
+    turned a true false = and-false (a && true)
+    turned a false c = ap (λ (t : Bool). t && c) (and-false a)
+
+module _ (a name : List ℕ) (at rrtype rrclass : ℕ) (t : ℕ) (p : t ≡ field 2 (drop (at + 2) a)) where
+  abbrev found : Subscription
+  found = subOf (part a at blockSize)
+
+  abbrev wanted-question : Subscription
+  wanted-question = subscription 0 name rrtype rrclass
+
+  the-type : t ≡ found .rrtype
+  the-type = p ∙ block-type a at
+
+  pub other-type : (t ≡ rrtype → ⊥) → false ≡ sameQuestion wanted-question found
+  other-type h =
+      sym (ap (λ (b : Bool). sameName name (found .owner) && b && eqb rrclass (found .rrclass))
+      (ne-eqb rrtype (found .rrtype) (λ e. h (the-type ∙ sym e)))
+      ∙ ap (λ (b : Bool). b && eqb rrclass (found .rrclass)) (and-false (sameName name (found .owner))))
+
+  module _ (k : ℕ) (q : k ≡ field 2 (drop (at + 4) a)) where
+    the-class : k ≡ found .rrclass
+    the-class = q ∙ block-class a at
+
+    pub other-class : (k ≡ rrclass → ⊥) → false ≡ sameQuestion wanted-question found
+    other-class h =
+        sym (ap (λ (b : Bool). sameName name (found .owner) && eqb rrtype (found .rrtype) && b)
+        (ne-eqb rrclass (found .rrclass) (λ e. h (the-class ∙ sym e)))
+        ∙ and-false (sameName name (found .owner) && eqb rrtype (found .rrtype)))
+
+    pub same-names : t ≡ rrtype → k ≡ rrclass → (o : List ℕ) → o ≡ found .owner → (r : Bool) → r ≡ sameName name o
+        → r ≡ sameQuestion wanted-question found
+    same-names h j o f r g =
+        g ∙ ap (sameName name) f
+        ∙ sym (ap₂ (λ (b c : Bool). sameName name (found .owner) && b && c) (eq-eqb rrtype (found .rrtype) (sym h ∙ the-type))
+        (eq-eqb rrclass (found .rrclass) (sym j ∙ the-class)) ∙ and-true (sameName name (found .owner) && true)
+        ∙ and-true (sameName name (found .owner)))
+
+    module _ (v : Bool) (w : v ≡ asksFor t k rrtype rrclass) where
+      asked-for : matches found (recordAsked name rrtype rrclass) ≡ v && sameName (found .owner) name
+      asked-for = matches-split found name rrtype rrclass
+          ∙ ap (λ (b : Bool). b && sameName (found .owner) name)
+          (sym (w ∙ ap₂ (λ (x y : ℕ). asksFor x y rrtype rrclass) the-type the-class))
+
+      pub matches-not : v ≡ false → false ≡ matches found (recordAsked name rrtype rrclass)
+      matches-not h = sym (asked-for ∙ ap (λ (b : Bool). b && sameName (found .owner) name) h)
+
+      pub matches-names : v ≡ true → (o : List ℕ) → o ≡ found .owner → (r : Bool) → r ≡ sameName o name
+          → r ≡ matches found (recordAsked name rrtype rrclass)
+      matches-names h o f r g =
+          g ∙ ap (λ (l : List ℕ). sameName l name) f ∙ sym (asked-for ∙ ap (λ (b : Bool). b && sameName (found .owner) name) h)
+
+-- ---- how many there are, and one of them
+
+pub length-subscriptionsOf : (count : ℕ) (a : List ℕ) → length (subscriptionsOf count a) ≡ min count maxSubscriptions
+unfolding subscriptionsOf
+length-subscriptionsOf count a =
+    length-map (blocks blockSize (min count maxSubscriptions) a) subOf ∙ length-blocks blockSize (min count maxSubscriptions) a
+
+pub subscriptionsOf-at : (count : ℕ) (a : List ℕ) (i : ℕ) → i < min count maxSubscriptions
+    → getD (subscriptionsOf count a) i (subOf []) ≡ subOf (part a (i * blockSize) blockSize)
+unfolding subscriptionsOf
+subscriptionsOf-at count a i h =
+    List·getD-map subOf (blocks blockSize (min count maxSubscriptions) a) i []
+    ∙ ap subOf (blocks-at blockSize (min count maxSubscriptions) a i h)
+
+pub isFull-count : (count : ℕ) (a : List ℕ) → leb maxSubscriptions count ≡ isFull (subscriptionsOf count a)
+unfolding isFull
+isFull-count count a =
+    clamped (leb maxSubscriptions count) refl ∙ sym (ap (leb maxSubscriptions) (length-subscriptionsOf count a))
+  where
+    clamped : (b : Bool) → leb maxSubscriptions count ≡ b → leb maxSubscriptions count ≡ leb maxSubscriptions (min count maxSubscriptions)
+    clamped true h = h ∙ sym (le-leb maxSubscriptions (min count maxSubscriptions) (omega (arith, leb-true maxSubscriptions count h)))
+    clamped false h = h ∙ sym (lt-leb maxSubscriptions (min count maxSubscriptions) (omega (arith, leb-false maxSubscriptions count h)))
+
+-- ---- a search through them
+
+-- None of the first i passes the test.
+pub record Passed (p : Subscription → Bool) (count : ℕ) (a : List ℕ) (i : ℕ) : Type 0 where
+  pub rest : anyOf p (subscriptionsOf count a) ≡ anyOf p (drop i (subscriptionsOf count a))
+
+pub passed-none : (p : Subscription → Bool) (count : ℕ) (a : List ℕ) → Passed p count a 0
+passed-none p count a = record { rest = refl }
+
+module _ (p : Subscription → Bool) (count : ℕ) (a : List ℕ) (i : ℕ) (d : Passed p count a i) (n : ℕ) (e : n ≡ min count maxSubscriptions) where
+  pub passed-end : n ≤ i → false ≡ anyOf p (subscriptionsOf count a)
+  passed-end h =
+      sym (d .rest ∙ ap (anyOf p) (drop-of-length-le (subscriptionsOf count a) {i = i} (omega (arith, length-subscriptionsOf count a))))
+
+  next : i < n → anyOf p (subscriptionsOf count a) ≡ p (subOf (part a (i * blockSize) blockSize)) || anyOf p (drop (suc i) (subscriptionsOf count a))
+  next h =
+      let s : List Subscription = subscriptionsOf count a in
+      d .rest ∙ ap (anyOf p) (drop-cons s i (subOf []) (omega (arith, length-subscriptionsOf count a)))
+      ∙ ap (λ (x : Subscription). p x || anyOf p (drop (suc i) s)) (subscriptionsOf-at count a i (omega arith))
+
+  module _ (h : i < n) (r : Bool) (f : r ≡ p (subOf (part a (i * blockSize) blockSize))) where
+    pub passed-found : r ≡ true → true ≡ anyOf p (subscriptionsOf count a)
+    passed-found g = sym (next h ∙ ap (λ (b : Bool). b || anyOf p (drop (suc i) (subscriptionsOf count a))) (sym f ∙ g))
+
+    pub passed-turn : r ≡ false → Passed p count a (i + 1)
+    passed-turn g = record {
+      rest = next h ∙ ap (λ (b : Bool). b || anyOf p (drop (suc i) (subscriptionsOf count a))) (sym f ∙ g)
+          ∙ ap (λ (k : ℕ). anyOf p (drop k (subscriptionsOf count a))) (sym (add-one i));
+    }

@@ -1,0 +1,177 @@
+// A session's subscriptions in lent memory: blocks of one size, `count` of which hold one each, in the order in which they
+// came. A block: message ID, type and class, 16 bits each; the length of the name, one octet; the name.
+ghost use Prim.Native.Nat.{ℕ, _+_, _≤_, _<_, min};
+ghost use mathlib.Core.Path.{_≡_};
+ghost use mathlib.Core.Bool.{_||_};
+ghost use mathlib.Core.List.{List};
+ghost use lib.ListN.{length};
+ghost use lib.Dec.{eqb};
+ghost use Rattle.wire.specs.Part.{part};
+ghost use Rattle.zone.specs.Match.{any, matches as matching, wanted as wantedBy};
+ghost use Rattle.session.specs.Subscriptions.{maxSubscriptions, usesId, sameQuestion, asksAlready, isFull};
+ghost use Rattle.session.specs.Table.{blockSize, areaSize, subOf, subscriptionsOf, subscription, recordAsked, asksFor};
+
+// 01: "Subscriptions: 16 a session".
+pub const SUBSCRIPTIONS: usize = 16;
+
+const BLOCK: usize = 262;
+
+pub const AREA: usize = SUBSCRIPTIONS * BLOCK;
+
+// A type or class that asks for any, and CNAME's type.
+const ANY: u16 = 255;
+
+const CNAME: u16 = 5;
+
+// A count over the limit counts as the limit.
+fn live(count: usize) -> usize
+    ensures { λ r. ⌜ r ≡ min count maxSubscriptions ⌝ }
+{
+    if count < SUBSCRIPTIONS {
+        count
+    } else {
+        SUBSCRIPTIONS
+    }
+}
+
+pub fn is_full(count: usize) -> bool
+    ensures { λ r. ⌜ ((area : List ℕ) → r ≡ isFull (subscriptionsOf count area)) ⌝ }
+{
+    SUBSCRIPTIONS <= count
+}
+
+// ---- one block, at a place
+
+fn has_id(area: &[u8], at: usize, id: u16) -> bool
+    ensures { λ r. ⌜ r ≡ eqb (subOf (part (now (area .entry)) at blockSize) .id) id ⌝ }
+{
+    wire::field16(area, at) == id
+}
+
+fn owner(area: &[u8], at: usize) -> &[u8]
+    requires { ⌜ at + blockSize ≤ length (now area) ⌝ }
+    ensures { λ r. ⌜ now r ≡ subOf (part (now (area .entry)) at blockSize) .owner ⌝ }
+{
+    let from = at + 7;
+    let n = area[at + 6] as usize;
+    &area[from..from + n]
+}
+
+// Type and class first: they are cheap to compare, and tell most apart.
+fn asks_same(area: &[u8], at: usize, name: &[u8], rrtype: u16, rrclass: u16) -> bool
+    requires { ⌜ at + blockSize ≤ length (now area) ⌝ }
+    ensures { λ r. ⌜ r ≡ sameQuestion (subscription 0 (now (name .entry)) rrtype rrclass) (subOf (part (now (area .entry)) at blockSize)) ⌝ }
+{
+    if wire::field16(area, at + 2) != rrtype {
+        return false;
+    }
+    if wire::field16(area, at + 4) != rrclass {
+        return false;
+    }
+    wire::same_name(name, owner(area, at))
+}
+
+fn asks_value(asked: u16, held: u16) -> bool
+    ensures { λ r. ⌜ r ≡ eqb asked any || eqb asked held ⌝ }
+{
+    if asked == ANY {
+        return true;
+    }
+    asked == held
+}
+
+// Whether a subscription's type and class ask for a record's.
+fn asks_for(qtype: u16, qclass: u16, rrtype: u16, rrclass: u16) -> bool
+    ensures { λ r. ⌜ r ≡ asksFor qtype qclass rrtype rrclass ⌝ }
+{
+    if asks_value(qclass, rrclass) {
+        if rrtype == CNAME {
+            return true;
+        }
+        return asks_value(qtype, rrtype);
+    }
+    false
+}
+
+fn matches(area: &[u8], at: usize, name: &[u8], rrtype: u16, rrclass: u16) -> bool
+    requires { ⌜ at + blockSize ≤ length (now area) ⌝ }
+    ensures { λ r. ⌜ r ≡ matching (subOf (part (now (area .entry)) at blockSize)) (recordAsked (now (name .entry)) rrtype rrclass) ⌝ }
+{
+    if asks_for(
+        wire::field16(area, at + 2),
+        wire::field16(area, at + 4),
+        rrtype,
+        rrclass,
+    ) {
+        return wire::same_name(owner(area, at), name);
+    }
+    false
+}
+
+// ---- all of them
+
+fn find_id(area: &[u8], count: usize, id: u16) -> bool
+    requires { ⌜ length (now area) ≡ areaSize ⌝ }
+    ensures { λ r. ⌜ r ≡ usesId id (subscriptionsOf count (now (area .entry))) ⌝ }
+{
+    let n = live(count);
+    let mut i = 0;
+    while i < n {
+        if has_id(area, i * BLOCK, id) {
+            return true;
+        }
+        i += 1;
+    }
+    false
+}
+
+fn find_question(area: &[u8], count: usize, name: &[u8], rrtype: u16, rrclass: u16) -> bool
+    requires { ⌜ length (now area) ≡ areaSize ⌝ }
+    ensures { λ r. ⌜ r ≡ asksAlready (subscription 0 (now (name .entry)) rrtype rrclass) (subscriptionsOf count (now (area .entry))) ⌝ }
+{
+    let n = live(count);
+    let mut i = 0;
+    while i < n {
+        if asks_same(area, i * BLOCK, name, rrtype, rrclass) {
+            return true;
+        }
+        i += 1;
+    }
+    false
+}
+
+fn find_match(area: &[u8], count: usize, name: &[u8], rrtype: u16, rrclass: u16) -> bool
+    requires { ⌜ length (now area) ≡ areaSize ⌝ }
+    ensures { λ r. ⌜ r ≡ wantedBy (subscriptionsOf count (now (area .entry))) (recordAsked (now (name .entry)) rrtype rrclass) ⌝ }
+{
+    let n = live(count);
+    let mut i = 0;
+    while i < n {
+        if matches(area, i * BLOCK, name, rrtype, rrclass) {
+            return true;
+        }
+        i += 1;
+    }
+    false
+}
+
+// Whether a message ID is held by one of them.
+pub fn uses_id(area: &[u8; AREA], count: usize, id: u16) -> bool
+    ensures { λ r. ⌜ r ≡ usesId id (subscriptionsOf count (now (area .entry))) ⌝ }
+{
+    find_id(area, count, id)
+}
+
+// Whether one of them has the same name, type and class, whatever its ID.
+pub fn asks_already(area: &[u8; AREA], count: usize, name: &[u8], rrtype: u16, rrclass: u16) -> bool
+    ensures { λ r. ⌜ r ≡ asksAlready (subscription 0 (now (name .entry)) rrtype rrclass) (subscriptionsOf count (now (area .entry))) ⌝ }
+{
+    find_question(area, count, name, rrtype, rrclass)
+}
+
+// Whether one of them matches a record of this name, type and class.
+pub fn wanted(area: &[u8; AREA], count: usize, name: &[u8], rrtype: u16, rrclass: u16) -> bool
+    ensures { λ r. ⌜ r ≡ wantedBy (subscriptionsOf count (now (area .entry))) (recordAsked (now (name .entry)) rrtype rrclass) ⌝ }
+{
+    find_match(area, count, name, rrtype, rrclass)
+}
