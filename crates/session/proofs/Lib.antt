@@ -1,3 +1,4 @@
 -- Laws of a session's clocks and of its table of subscriptions.
 pub mod Timeouts
 pub mod Table
+pub mod Changes

@@ -1,20 +1,26 @@
 // A session's subscriptions in lent memory: blocks of one size, `count` of which hold one each, in the order in which they
 // came. A block: message ID, type and class, 16 bits each; the length of the name, one octet; the name.
-ghost use Prim.Native.Nat.{ℕ, _+_, _≤_, _<_, min};
+ghost use Prim.Native.Nat.{ℕ, _+_, _-_, _≤_, _<_, min};
 ghost use mathlib.Core.Path.{_≡_};
 ghost use mathlib.Core.Bool.{_||_};
-ghost use mathlib.Core.List.{List};
+ghost use mathlib.Core.List.{List, _∷_, _++_};
 ghost use lib.ListN.{length};
+ghost use lib.Seq.{sets};
 ghost use lib.Dec.{eqb};
+ghost use Rattle.wire.specs.Field.{octets};
+ghost use Rattle.wire.specs.Name.{maxName};
 ghost use Rattle.wire.specs.Part.{part};
+ghost use Rattle.table.specs.Blocks.{blocks, cut};
 ghost use Rattle.zone.specs.Match.{any, matches as matching, wanted as wantedBy};
-ghost use Rattle.session.specs.Subscriptions.{maxSubscriptions, usesId, sameQuestion, asksAlready, isFull};
-ghost use Rattle.session.specs.Table.{blockSize, areaSize, subOf, subscriptionsOf, subscription, recordAsked, asksFor};
+ghost use Rattle.session.specs.Subscriptions.{maxSubscriptions, usesId, sameQuestion, asksAlready, isFull, without};
+ghost use Rattle.session.specs.Table.{blockSize, areaSize, subOf, subOctets, subscriptionsOf, appended, subscription, recordAsked, asksFor};
 
 // 01: "Subscriptions: 16 a session".
 pub const SUBSCRIPTIONS: usize = 16;
 
-const BLOCK: usize = 262;
+const MAX_NAME: usize = 255;
+
+const BLOCK: usize = 7 + MAX_NAME;
 
 pub const AREA: usize = SUBSCRIPTIONS * BLOCK;
 
@@ -108,6 +114,32 @@ fn matches(area: &[u8], at: usize, name: &[u8], rrtype: u16, rrclass: u16) -> bo
     false
 }
 
+fn write_numbers(area: &mut [u8], at: usize, id: u16, rrtype: u16, rrclass: u16)
+    requires { ⌜ at + blockSize ≤ length (now area) ⌝ }
+    ensures { λ _. ⌜ now (area .exit) ≡ sets (now (area .entry)) at (octets 2 id ++ (octets 2 rrtype ++ octets 2 rrclass)) ⌝ }
+{
+    wire::write16(area, at, id);
+    wire::write16(area, at + 2, rrtype);
+    wire::write16(area, at + 4, rrclass);
+}
+
+// A name behind its length.
+fn write_owner(area: &mut [u8], at: usize, name: &[u8])
+    requires { ⌜ (at + maxName < length (now area)) × (length (now name) ≤ maxName) ⌝ }
+    ensures { λ _. ⌜ now (area .exit) ≡ sets (now (area .entry)) at (length (now (name .entry)) ∷ now (name .entry)) ⌝ }
+{
+    area[at] = name.len() as u8;
+    wire::write_octets(area, at + 1, name);
+}
+
+fn write_block(area: &mut [u8], at: usize, id: u16, name: &[u8], rrtype: u16, rrclass: u16)
+    requires { ⌜ (at + blockSize ≤ length (now area)) × (length (now name) ≤ maxName) ⌝ }
+    ensures { λ _. ⌜ now (area .exit) ≡ sets (now (area .entry)) at (subOctets (subscription id (now (name .entry)) rrtype rrclass)) ⌝ }
+{
+    write_numbers(area, at, id, rrtype, rrclass);
+    write_owner(area, at + 6, name);
+}
+
 // ---- all of them
 
 fn find_id(area: &[u8], count: usize, id: u16) -> bool
@@ -155,6 +187,53 @@ fn find_match(area: &[u8], count: usize, name: &[u8], rrtype: u16, rrclass: u16)
     false
 }
 
+fn add_block(
+    area: &mut [u8],
+    count: usize,
+    id: u16,
+    name: &[u8],
+    rrtype: u16,
+    rrclass: u16,
+) -> usize
+    requires { ⌜ length (now area) ≡ areaSize ⌝ }
+    ensures { λ r. ⌜ subscriptionsOf r (now (area .exit)) ≡ appended (subscription id (now (name .entry)) rrtype rrclass) (subscriptionsOf count (now (area .entry))) ⌝ }
+{
+    if SUBSCRIPTIONS <= count {
+        return count;
+    }
+    if MAX_NAME < name.len() {
+        return count;
+    }
+    write_block(area, count * BLOCK, id, name, rrtype, rrclass);
+    count + 1
+}
+
+// Block i of n is gone: those behind it move down by one. How many are left.
+fn close_gap(area: &mut [u8], i: usize, n: usize) -> usize
+    requires { ⌜ (i < n) × (n ≤ maxSubscriptions) × (length (now area) ≡ areaSize) ⌝ }
+    ensures { λ r. ⌜ (r ≡ n - 1) × (blocks blockSize (n - 1) (now (area .exit)) ≡ cut i (blocks blockSize n (now (area .entry)))) ⌝ }
+{
+    let to = i * BLOCK;
+    table::slide(area, to, to + BLOCK, (n - 1 - i) * BLOCK);
+    n - 1
+}
+
+fn remove_blocks(area: &mut [u8], count: usize, id: u16) -> usize
+    requires { ⌜ length (now area) ≡ areaSize ⌝ }
+    ensures { λ r. ⌜ subscriptionsOf r (now (area .exit)) ≡ without id (subscriptionsOf count (now (area .entry))) ⌝ }
+{
+    let mut n = live(count);
+    let mut i = 0;
+    while i < n {
+        if has_id(area, i * BLOCK, id) {
+            n = close_gap(area, i, n);
+        } else {
+            i += 1;
+        }
+    }
+    n
+}
+
 // Whether a message ID is held by one of them.
 pub fn uses_id(area: &[u8; AREA], count: usize, id: u16) -> bool
     ensures { λ r. ⌜ r ≡ usesId id (subscriptionsOf count (now (area .entry))) ⌝ }
@@ -174,4 +253,25 @@ pub fn wanted(area: &[u8; AREA], count: usize, name: &[u8], rrtype: u16, rrclass
     ensures { λ r. ⌜ r ≡ wantedBy (subscriptionsOf count (now (area .entry))) (recordAsked (now (name .entry)) rrtype rrclass) ⌝ }
 {
     find_match(area, count, name, rrtype, rrclass)
+}
+
+// One more at the end. How many there are then: as many as before where there is no room for it, or no name is so long.
+pub fn append(
+    area: &mut [u8; AREA],
+    count: usize,
+    id: u16,
+    name: &[u8],
+    rrtype: u16,
+    rrclass: u16,
+) -> usize
+    ensures { λ r. ⌜ subscriptionsOf r (now (area .exit)) ≡ appended (subscription id (now (name .entry)) rrtype rrclass) (subscriptionsOf count (now (area .entry))) ⌝ }
+{
+    add_block(area, count, id, name, rrtype, rrclass)
+}
+
+// Without the one of an ID, if there is one. How many there are then.
+pub fn remove(area: &mut [u8; AREA], count: usize, id: u16) -> usize
+    ensures { λ r. ⌜ subscriptionsOf r (now (area .exit)) ≡ without id (subscriptionsOf count (now (area .entry))) ⌝ }
+{
+    remove_blocks(area, count, id)
 }
