@@ -11,8 +11,10 @@ use lib.Seq.{sets, take-all, take-nil, drop-nil, take-take, drop-drop, take-add,
 use lib.Dec.{leb}
 use borrow.Author.Tests.{le-leb, lt-leb}
 use Rattle.wire.specs.Part.{part}
+use Rattle.wire.specs.Field.{field}
+use Rattle.wire.proofs.Fields.{field-take-le, field-past, field-one}
 use Rattle.wire.proofs.Writes.{sets-append, sets-out, take-sets, take-sets-before, drop-sets-add, drop-sets-after, take-written}
-use Rattle.table.specs.Blocks.{blocks, cut, slid}
+use Rattle.table.specs.Blocks.{blocks, cut, slid, textAt}
 
 -- ---- a list without a member
 
@@ -64,10 +66,40 @@ module _ {A B : Type 0} (f : A → B) where
 
 -- ---- octets of a list
 
-drop-take : (n m : ℕ) (l : List ℕ) → drop n (take (n + m) l) ≡ take m (drop n l)
+pub drop-take : (n m : ℕ) (l : List ℕ) → drop n (take (n + m) l) ≡ take m (drop n l)
 drop-take zero m l = ap (λ (k : ℕ). take k l) (zero-add m)
 drop-take (suc n) m [] = ap (λ (k : ℕ). drop (suc n) (take k [])) (suc-add n m) ∙ sym (take-nil m)
 drop-take (suc n) m (x ∷ l) = ap (λ (k : ℕ). drop (suc n) (take k (x ∷ l))) (suc-add n m) ∙ drop-take n m l
+
+-- A part as far as a slice goes: from past the end, to the end, and within.
+pub part-past : (s : List ℕ) (at n : ℕ) → length s ≤ at → part s 0 0 ≡ part s at n
+part-past s at n h = sym (ap (take n) (drop-of-length-le s h) ∙ take-nil n)
+
+pub part-rest : (s : List ℕ) (at n : ℕ) → length s - at < n → part s at (length s - at) ≡ part s at n
+part-rest s at n h =
+    let l = length-drop at s in
+    take-all (length s - at) (drop at s) (omega arith) ∙ sym (take-all n (drop at s) (omega arith))
+
+pub part-to : (s : List ℕ) (at n : ℕ) → part s at (at + n - at) ≡ part s at n
+part-to s at n = let e : at + n - at ≡ n = omega arith in ap (λ (k : ℕ). part s at k) e
+
+pub text-past : (b : List ℕ) (counted from : ℕ) (t : List ℕ) → length b ≤ counted → t ≡ part b from 0 → t ≡ textAt b counted from
+text-past b counted from t h e = e ∙ ap (part b from) (field-past 1 b counted h)
+
+pub text-there : (b : List ℕ) (counted from : ℕ) (t : List ℕ) → t ≡ part b from (getD b counted 0) → t ≡ textAt b counted from
+text-there b counted from t e = e ∙ ap (part b from) (sym (field-one b counted))
+
+-- A part of a part, and a field in a part.
+pub part-part : (a : List ℕ) (b m k n : ℕ) → k + n ≤ m → part (part a b m) k n ≡ part a (b + k) n
+part-part a b m k n h =
+    let e : k + (m - k) ≡ m = omega arith in
+    ap (λ (j : ℕ). take n (drop k (take j (drop b a)))) (sym e) ∙ ap (take n) (drop-take k (m - k) (drop b a))
+    ∙ take-take n (m - k) (drop k (drop b a)) (omega arith) ∙ ap (take n) (drop-drop k b a)
+
+pub field-part : (a : List ℕ) (b m k n : ℕ) → k + n ≤ m → field n (drop (b + k) a) ≡ field n (drop k (part a b m))
+field-part a b m k n h =
+    sym (field-take-le n n (drop (b + k) a) (omega arith)) ∙ ap (field n) (sym (part-part a b m k n h))
+    ∙ field-take-le n n (drop k (part a b m)) (omega arith)
 
 -- What lies behind a write is as it was.
 pub sets-unread : (l : List ℕ) (i : ℕ) (vs : List ℕ) (j : ℕ) → i + length vs ≤ j → getD (sets l i vs) j 0 ≡ getD l j 0

@@ -5,6 +5,7 @@ use mathlib.Core.List.{List, [], _∷_}
 use lib.ListN.{take, drop}
 use lib.Seq.{sets}
 use lib.Dec.{leb}
+use Rattle.wire.specs.Field.{field}
 use Rattle.wire.specs.Part.{part}
 
 -- The first n blocks of `size` octets. Where the memory ends early the last ones are short or empty.
@@ -21,3 +22,7 @@ cut (suc i) (x ∷ l) = x ∷ cut i l
 -- n octets moved from a place down to another, as many as there are; nothing is moved up.
 unfoldable pub slid : List ℕ → ℕ → ℕ → ℕ → List ℕ
 slid a to from n = cond (leb to from) (sets a to (part a from n)) a
+
+-- The octets from a place of a block on, of which the octet at another place says how many.
+abbrev pub textAt : List ℕ → ℕ → ℕ → List ℕ
+textAt b counted from = part b from (field 1 (drop counted b))

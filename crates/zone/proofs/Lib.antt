@@ -6,3 +6,4 @@ pub mod Views
 pub mod Layouts
 pub mod Goods
 pub mod Batches
+pub mod Memory
