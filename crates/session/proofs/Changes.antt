@@ -13,9 +13,9 @@ use borrow.Author.Tests.{lt-ltb, le-ltb, le-leb, lt-leb}
 use Rattle.wire.specs.Field.{field, octets}
 use Rattle.wire.specs.Name.{maxName}
 use Rattle.wire.specs.Part.{part}
-use Rattle.wire.proofs.Fields.{length-octets, field-octets}
+use Rattle.wire.proofs.Fields.{length-octets, field-octets, field-one}
 use Rattle.wire.proofs.Writes.{sets-append, sets-front, take-sets, drop-sets-add}
-use Rattle.table.specs.Blocks.{blocks, cut, slid}
+use Rattle.table.specs.Blocks.{blocks, cut, slid, textAt}
 use Rattle.table.proofs.Blocks.{length-blocks, blocks-suc, blocks-past, blocks-slid, take-cut, drop-cut, map-cut}
 use Rattle.zone.specs.Lists.{keep, onlyIf}
 use Rattle.zone.specs.Match.{Subscription}
@@ -92,8 +92,8 @@ subOf-octets s h rest =
     let d4 : drop 4 b ≡ c ++ o = sym (drop-drop 2 2 b) ∙ ap (drop 2) d2 ∙ drop-at t (c ++ o) 2 (length-octets 2 (s .rrtype)) in
     let d6 : drop 6 b ≡ o = sym (drop-drop 2 4 b) ∙ ap (drop 2) d4 ∙ drop-at c o 2 (length-octets 2 (s .rrclass)) in
     let d7 : drop 7 b ≡ s .owner ++ rest = sym (drop-drop 1 6 b) ∙ ap (drop 1) d6 in
-    let n : getD b 6 0 ≡ length (s .owner) = sym (getD-drop 6 b 0 0) ∙ ap (λ (l : List ℕ). getD l 0 0) d6 in
-    same s (field 2 b) (take (getD b 6 0) (drop 7 b)) (field 2 (drop 2 b)) (field 2 (drop 4 b))
+    let n : field 1 (drop 6 b) ≡ length (s .owner) = ap (field 1) d6 ∙ field-one o 0 in
+    same s (field 2 b) (textAt b 6 7) (field 2 (drop 2 b)) (field 2 (drop 4 b))
     (ap (field 2) e ∙ field-octets 2 (s .id) (t ++ (c ++ o)) (h .id-fits))
     (ap₂ (λ (k : ℕ) (l : List ℕ). take k l) n d7 ∙ take-at (s .owner) rest (length (s .owner)) refl)
     (ap (field 2) d2 ∙ field-octets 2 (s .rrtype) (c ++ o) (h .type-fits))
@@ -166,66 +166,58 @@ gap-closed n a b i h k l e = ap (blocks blockSize (n - 1)) e ∙ blocks-slid blo
 -- The loop: the first i of n keep their place, and of those behind them the ones of the ID are still to go.
 pub record Swept (id : ℕ) (subs : List Subscription) (n : ℕ) (a : List ℕ) (i : ℕ) : Type 0 where
   pub many : n ≤ maxSubscriptions
-  pub long : length a ≡ areaSize
   pub rest : without id subs ≡ take i (subscriptionsOf n a) ++ without id (drop i (subscriptionsOf n a))
 
-pub swept-none : (id count n : ℕ) (a : List ℕ) → n ≡ min count maxSubscriptions → length a ≡ areaSize
-    → Swept id (subscriptionsOf count a) n a 0
+pub swept-none : (id count n : ℕ) (a : List ℕ) → n ≡ min count maxSubscriptions → Swept id (subscriptionsOf count a) n a 0
 unfolding subscriptionsOf
-swept-none id count n a e l =
+swept-none id count n a e =
     let m : min count maxSubscriptions ≡ min n maxSubscriptions = omega arith in
-    record {
-      many = omega arith;
-      long = l;
-      rest = ap (λ (k : ℕ). without id (map subOf (blocks blockSize k a))) m;
-    }
+    record { many = omega arith; rest = ap (λ (k : ℕ). without id (map subOf (blocks blockSize k a))) m }
 
 module _ (id : ℕ) (subs : List Subscription) (n : ℕ) (a : List ℕ) (i : ℕ) (d : Swept id subs n a i) where
-  pub swept-all : n ≤ i → subscriptionsOf n a ≡ without id subs
+  abbrev all : List Subscription
+  all = subscriptionsOf n a
+
+  abbrev behind : List Subscription
+  behind = without id (drop (suc i) all)
+
+  pub swept-all : n ≤ i → all ≡ without id subs
   unfolding without
   swept-all h =
-      let l : length (subscriptionsOf n a) ≤ i = omega (arith, length-subscriptionsOf n a) in
-      sym (d .rest ∙ ap₂ (λ (x y : List Subscription). x ++ without id y) (take-all i (subscriptionsOf n a) l) (drop-of-length-le (subscriptionsOf n a) {i = i} l)
-      ∙ append-nil (subscriptionsOf n a))
+      let l : length all ≤ i = omega (arith, length-subscriptionsOf n a) in
+      sym (d .rest ∙ ap₂ (λ (x y : List Subscription). x ++ without id y) (take-all i all l) (drop-of-length-le all {i = i} l) ∙ append-nil all)
 
-  -- Whether the next one keeps its place.
-  next : i < n → (r : Bool) → r ≡ eqb (subOf (part a (i * blockSize) blockSize) .id) id
-      → without id (drop i (subscriptionsOf n a)) ≡ onlyIf (not r) (getD (subscriptionsOf n a) i (subOf [])) (without id (drop (suc i) (subscriptionsOf n a)))
-  unfolding without
-  next h r f =
-      let all : List Subscription = subscriptionsOf n a in
-      let x : Subscription = getD all i (subOf []) in
-      let y : x ≡ subOf (part a (i * blockSize) blockSize) = subscriptionsOf-at n a i (omega (arith, d .many)) in
-      ap (without id) (drop-cons all i (subOf []) (omega (arith, d .many, length-subscriptionsOf n a)))
-      ∙ ap (λ (b : Bool). onlyIf (not b) x (without id (drop (suc i) all))) (ap (λ (z : Subscription). eqb (z .id) id) y ∙ sym f)
+  module _ (h : i < n) (o : List ℕ) (p : o ≡ part a (i * blockSize) blockSize) (r : Bool) (f : r ≡ eqb (subOf o .id) id) where
+    abbrev here : Subscription
+    here = getD all i (subOf [])
 
-  pub swept-kept : i < n → (r : Bool) → r ≡ eqb (subOf (part a (i * blockSize) blockSize) .id) id → r ≡ false → Swept id subs n a (i + 1)
-  swept-kept h r f g =
-      let all : List Subscription = subscriptionsOf n a in
-      let x : Subscription = getD all i (subOf []) in
-      let w : List Subscription = without id (drop (suc i) all) in
-      record {
-        many = d .many;
-        long = d .long;
-        rest = d .rest
-            ∙ ap (λ (l : List Subscription). take i all ++ l) (next h r f ∙ ap (λ (b : Bool). onlyIf (not b) x w) g)
-            ∙ sym (append-assoc (take i all) (x ∷ []) w)
-            ∙ ap (λ (l : List Subscription). l ++ w) (sym (take-suc all i (subOf []) (omega (arith, d .many, length-subscriptionsOf n a))))
-            ∙ ap (λ (k : ℕ). take k all ++ without id (drop k all)) (sym (add-one i));
-      }
+    inside : i < length all
+    inside = omega (arith, d .many, length-subscriptionsOf n a)
 
-  pub swept-gone : i < n → (r : Bool) → r ≡ eqb (subOf (part a (i * blockSize) blockSize) .id) id → r ≡ true
-      → (m : ℕ) (b : List ℕ) → m ≡ n - 1 → blocks blockSize (n - 1) b ≡ cut i (blocks blockSize n a) → length b ≡ length a
-      → Swept id subs m b i
-  swept-gone h r f g m b e k l =
-      let all : List Subscription = subscriptionsOf n a in
-      let now : subscriptionsOf m b ≡ cut i all =
-      subscriptionsOf-few m b (omega (arith, d .many)) ∙ ap (λ (j : ℕ). map subOf (blocks blockSize j b)) e ∙ ap (map subOf) k
-      ∙ map-cut subOf i (blocks blockSize n a) ∙ ap (cut i) (sym (subscriptionsOf-few n a (d .many))) in
-      record {
-        many = omega (arith, d .many);
-        long = l ∙ d .long;
-        rest = d .rest
-            ∙ ap (λ (x : List Subscription). take i all ++ x) (next h r f ∙ ap (λ (b : Bool). onlyIf (not b) (getD all i (subOf [])) (without id (drop (suc i) all))) g)
-            ∙ ap₂ (λ (x y : List Subscription). x ++ without id y) (sym (ap (take i) now ∙ take-cut i all)) (sym (ap (drop i) now ∙ drop-cut i all));
-      }
+    -- Whether the next one keeps its place.
+    next : without id (drop i all) ≡ onlyIf (not r) here behind
+    unfolding without
+    next =
+        let e : here ≡ subOf o = subscriptionsOf-at n a i (omega (arith, d .many)) ∙ ap subOf (sym p) in
+        ap (without id) (drop-cons all i (subOf []) inside)
+        ∙ ap (λ (b : Bool). onlyIf (not b) here behind) (ap (λ (s : Subscription). eqb (s .id) id) e ∙ sym f)
+
+    pub swept-kept : r ≡ false → Swept id subs n a (i + 1)
+    swept-kept g = record {
+      many = d .many;
+      rest = d .rest ∙ ap (λ (l : List Subscription). take i all ++ l) (next ∙ ap (λ (b : Bool). onlyIf (not b) here behind) g)
+          ∙ sym (append-assoc (take i all) (here ∷ []) behind)
+          ∙ ap (λ (l : List Subscription). l ++ behind) (sym (take-suc all i (subOf []) inside))
+          ∙ ap (λ (k : ℕ). take k all ++ without id (drop k all)) (sym (add-one i));
+    }
+
+    pub swept-gone : r ≡ true → (m : ℕ) (b : List ℕ) → m ≡ n - 1 → blocks blockSize (n - 1) b ≡ cut i (blocks blockSize n a) → Swept id subs m b i
+    swept-gone g m b e k =
+        let left : subscriptionsOf m b ≡ cut i all =
+        subscriptionsOf-few m b (omega (arith, d .many)) ∙ ap (λ (j : ℕ). map subOf (blocks blockSize j b)) e ∙ ap (map subOf) k
+        ∙ map-cut subOf i (blocks blockSize n a) ∙ ap (cut i) (sym (subscriptionsOf-few n a (d .many))) in
+        record {
+          many = omega (arith, d .many);
+          rest = d .rest ∙ ap (λ (l : List Subscription). take i all ++ l) (next ∙ ap (λ (t : Bool). onlyIf (not t) here behind) g)
+              ∙ ap₂ (λ (x y : List Subscription). x ++ without id y) (sym (ap (take i) left ∙ take-cut i all)) (sym (ap (drop i) left ∙ drop-cut i all));
+        }

@@ -13,48 +13,12 @@ use borrow.Author.Tests.{eq-eqb, ne-eqb, le-leb, lt-leb, leb-true, leb-false}
 use Rattle.wire.specs.Field.{field}
 use Rattle.wire.specs.Name.{sameName, sameOctets, lowered}
 use Rattle.wire.specs.Part.{part}
-use Rattle.wire.proofs.Fields.{field-take-le}
 use Rattle.table.specs.Blocks.{blocks}
 use Rattle.table.proofs.Blocks.{length-blocks, blocks-at}
 use Rattle.zone.specs.Lists.{anyOf}
 use Rattle.zone.specs.Match.{Subscription, any, cname, matchesKey, matches}
 use Rattle.session.specs.Subscriptions.{maxSubscriptions, usesId, sameQuestion, asksAlready, isFull}
 use Rattle.session.specs.Table.{blockSize, subOf, subscriptionsOf, subscription, recordAsked, asksFor}
-
--- ---- one block
-
-drop-take : (n m : ℕ) (l : List ℕ) → drop n (take (n + m) l) ≡ take m (drop n l)
-drop-take zero m l = ap (λ (k : ℕ). take k l) (zero-add m)
-drop-take (suc n) m [] = ap (λ (k : ℕ). drop (suc n) (take k [])) (suc-add n m) ∙ sym (take-nil m)
-drop-take (suc n) m (x ∷ l) = ap (λ (k : ℕ). drop (suc n) (take k (x ∷ l))) (suc-add n m) ∙ drop-take n m l
-
--- What lies from place k of a block on, by its place in the memory.
-block-from : (a : List ℕ) (at k m : ℕ) → k + m ≡ blockSize → drop k (part a at blockSize) ≡ take m (drop (at + k) a)
-block-from a at k m h =
-    ap (λ (n : ℕ). drop k (take n (drop at a))) (sym h) ∙ drop-take k m (drop at a) ∙ ap (take m) (drop-drop k at a)
-
-module _ (a : List ℕ) (at : ℕ) where
-  pub block-id : field 2 (drop at a) ≡ subOf (part a at blockSize) .id
-  unfolding subOf
-  block-id = sym (field-take-le 2 blockSize (drop at a) (omega arith))
-
-  pub block-type : field 2 (drop (at + 2) a) ≡ subOf (part a at blockSize) .rrtype
-  unfolding subOf
-  block-type = sym (ap (field 2) (block-from a at 2 260 refl) ∙ field-take-le 2 260 (drop (at + 2) a) (omega arith))
-
-  pub block-class : field 2 (drop (at + 4) a) ≡ subOf (part a at blockSize) .rrclass
-  unfolding subOf
-  block-class = sym (ap (field 2) (block-from a at 4 258 refl) ∙ field-take-le 2 258 (drop (at + 4) a) (omega arith))
-
-  pub block-owner : getD a (at + 6) 0 < 256
-      → take (at + 7 + getD a (at + 6) 0 - (at + 7)) (drop (at + 7) a) ≡ subOf (part a at blockSize) .owner
-  unfolding subOf
-  block-owner h =
-      let n : ℕ = getD a (at + 6) 0 in
-      let e : at + 7 + n - (at + 7) ≡ n = omega arith in
-      let o : getD (part a at blockSize) 6 0 ≡ n = getD-take blockSize (drop at a) 6 0 (omega arith) ∙ getD-drop at a 6 0 in
-      ap (λ (k : ℕ). take k (drop (at + 7) a)) e ∙ sym (ap₂ (λ (k : ℕ) (l : List ℕ). take k l) o (block-from a at 7 255 refl)
-      ∙ take-take n 255 (drop (at + 7) a) (omega arith))
 
 -- ---- what a block asks for
 
@@ -117,53 +81,52 @@ matches-split s name rrtype rrclass =
     turned a true false = and-false (a && true)
     turned a false c = ap (λ (t : Bool). t && c) (and-false a)
 
-module _ (a name : List ℕ) (at rrtype rrclass : ℕ) (t : ℕ) (p : t ≡ field 2 (drop (at + 2) a)) where
-  abbrev found : Subscription
-  found = subOf (part a at blockSize)
+module _ (b name : List ℕ) (rrtype rrclass : ℕ) (t : ℕ) (p : t ≡ field 2 (drop 2 b)) where
+  abbrev asked : Subscription
+  asked = subscription 0 name rrtype rrclass
 
-  abbrev wanted-question : Subscription
-  wanted-question = subscription 0 name rrtype rrclass
+  the-type : t ≡ subOf b .rrtype
+  unfolding subOf
+  the-type = p
 
-  the-type : t ≡ found .rrtype
-  the-type = p ∙ block-type a at
-
-  pub other-type : (t ≡ rrtype → ⊥) → false ≡ sameQuestion wanted-question found
+  pub other-type : (t ≡ rrtype → ⊥) → false ≡ sameQuestion asked (subOf b)
   other-type h =
-      sym (ap (λ (b : Bool). sameName name (found .owner) && b && eqb rrclass (found .rrclass))
-      (ne-eqb rrtype (found .rrtype) (λ e. h (the-type ∙ sym e)))
-      ∙ ap (λ (b : Bool). b && eqb rrclass (found .rrclass)) (and-false (sameName name (found .owner))))
+      sym (ap (λ (x : Bool). sameName name (subOf b .owner) && x && eqb rrclass (subOf b .rrclass))
+      (ne-eqb rrtype (subOf b .rrtype) (λ e. h (the-type ∙ sym e)))
+      ∙ ap (λ (x : Bool). x && eqb rrclass (subOf b .rrclass)) (and-false (sameName name (subOf b .owner))))
 
-  module _ (k : ℕ) (q : k ≡ field 2 (drop (at + 4) a)) where
-    the-class : k ≡ found .rrclass
-    the-class = q ∙ block-class a at
+  module _ (k : ℕ) (q : k ≡ field 2 (drop 4 b)) where
+    the-class : k ≡ subOf b .rrclass
+    unfolding subOf
+    the-class = q
 
-    pub other-class : (k ≡ rrclass → ⊥) → false ≡ sameQuestion wanted-question found
+    pub other-class : (k ≡ rrclass → ⊥) → false ≡ sameQuestion asked (subOf b)
     other-class h =
-        sym (ap (λ (b : Bool). sameName name (found .owner) && eqb rrtype (found .rrtype) && b)
-        (ne-eqb rrclass (found .rrclass) (λ e. h (the-class ∙ sym e)))
-        ∙ and-false (sameName name (found .owner) && eqb rrtype (found .rrtype)))
+        sym (ap (λ (x : Bool). sameName name (subOf b .owner) && eqb rrtype (subOf b .rrtype) && x)
+        (ne-eqb rrclass (subOf b .rrclass) (λ e. h (the-class ∙ sym e)))
+        ∙ and-false (sameName name (subOf b .owner) && eqb rrtype (subOf b .rrtype)))
 
-    pub same-names : t ≡ rrtype → k ≡ rrclass → (o : List ℕ) → o ≡ found .owner → (r : Bool) → r ≡ sameName name o
-        → r ≡ sameQuestion wanted-question found
+    pub same-names : t ≡ rrtype → k ≡ rrclass → (o : List ℕ) → o ≡ subOf b .owner → (r : Bool) → r ≡ sameName name o
+        → r ≡ sameQuestion asked (subOf b)
     same-names h j o f r g =
         g ∙ ap (sameName name) f
-        ∙ sym (ap₂ (λ (b c : Bool). sameName name (found .owner) && b && c) (eq-eqb rrtype (found .rrtype) (sym h ∙ the-type))
-        (eq-eqb rrclass (found .rrclass) (sym j ∙ the-class)) ∙ and-true (sameName name (found .owner) && true)
-        ∙ and-true (sameName name (found .owner)))
+        ∙ sym (ap₂ (λ (x y : Bool). sameName name (subOf b .owner) && x && y) (eq-eqb rrtype (subOf b .rrtype) (sym h ∙ the-type))
+        (eq-eqb rrclass (subOf b .rrclass) (sym j ∙ the-class)) ∙ and-true (sameName name (subOf b .owner) && true)
+        ∙ and-true (sameName name (subOf b .owner)))
 
     module _ (v : Bool) (w : v ≡ asksFor t k rrtype rrclass) where
-      asked-for : matches found (recordAsked name rrtype rrclass) ≡ v && sameName (found .owner) name
-      asked-for = matches-split found name rrtype rrclass
-          ∙ ap (λ (b : Bool). b && sameName (found .owner) name)
+      asked-for : matches (subOf b) (recordAsked name rrtype rrclass) ≡ v && sameName (subOf b .owner) name
+      asked-for = matches-split (subOf b) name rrtype rrclass
+          ∙ ap (λ (x : Bool). x && sameName (subOf b .owner) name)
           (sym (w ∙ ap₂ (λ (x y : ℕ). asksFor x y rrtype rrclass) the-type the-class))
 
-      pub matches-not : v ≡ false → false ≡ matches found (recordAsked name rrtype rrclass)
-      matches-not h = sym (asked-for ∙ ap (λ (b : Bool). b && sameName (found .owner) name) h)
+      pub matches-not : v ≡ false → false ≡ matches (subOf b) (recordAsked name rrtype rrclass)
+      matches-not h = sym (asked-for ∙ ap (λ (x : Bool). x && sameName (subOf b .owner) name) h)
 
-      pub matches-names : v ≡ true → (o : List ℕ) → o ≡ found .owner → (r : Bool) → r ≡ sameName o name
-          → r ≡ matches found (recordAsked name rrtype rrclass)
+      pub matches-names : v ≡ true → (o : List ℕ) → o ≡ subOf b .owner → (r : Bool) → r ≡ sameName o name
+          → r ≡ matches (subOf b) (recordAsked name rrtype rrclass)
       matches-names h o f r g =
-          g ∙ ap (λ (l : List ℕ). sameName l name) f ∙ sym (asked-for ∙ ap (λ (b : Bool). b && sameName (found .owner) name) h)
+          g ∙ ap (λ (l : List ℕ). sameName l name) f ∙ sym (asked-for ∙ ap (λ (x : Bool). x && sameName (subOf b .owner) name) h)
 
 -- ---- how many there are, and one of them
 
@@ -208,12 +171,15 @@ module _ (p : Subscription → Bool) (count : ℕ) (a : List ℕ) (i : ℕ) (d :
       d .rest ∙ ap (anyOf p) (drop-cons s i (subOf []) (omega (arith, length-subscriptionsOf count a)))
       ∙ ap (λ (x : Subscription). p x || anyOf p (drop (suc i) s)) (subscriptionsOf-at count a i (omega arith))
 
-  module _ (h : i < n) (r : Bool) (f : r ≡ p (subOf (part a (i * blockSize) blockSize))) where
+  module _ (h : i < n) (b : List ℕ) (g : b ≡ part a (i * blockSize) blockSize) (r : Bool) (f : r ≡ p (subOf b)) where
+    here : r ≡ p (subOf (part a (i * blockSize) blockSize))
+    here = f ∙ ap (λ (o : List ℕ). p (subOf o)) g
+
     pub passed-found : r ≡ true → true ≡ anyOf p (subscriptionsOf count a)
-    passed-found g = sym (next h ∙ ap (λ (b : Bool). b || anyOf p (drop (suc i) (subscriptionsOf count a))) (sym f ∙ g))
+    passed-found t = sym (next h ∙ ap (λ (x : Bool). x || anyOf p (drop (suc i) (subscriptionsOf count a))) (sym here ∙ t))
 
     pub passed-turn : r ≡ false → Passed p count a (i + 1)
-    passed-turn g = record {
-      rest = next h ∙ ap (λ (b : Bool). b || anyOf p (drop (suc i) (subscriptionsOf count a))) (sym f ∙ g)
+    passed-turn t = record {
+      rest = next h ∙ ap (λ (x : Bool). x || anyOf p (drop (suc i) (subscriptionsOf count a))) (sym here ∙ t)
           ∙ ap (λ (k : ℕ). anyOf p (drop k (subscriptionsOf count a))) (sym (add-one i));
     }

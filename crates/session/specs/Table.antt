@@ -2,11 +2,11 @@
 use Prim.Native.Nat.{ℕ, _*_, min}
 use mathlib.Core.Bool.{Bool, cond, _&&_, _||_}
 use mathlib.Core.List.{List, [], _∷_, _++_, map}
-use lib.ListN.{length, take, drop, getD}
+use lib.ListN.{length, drop}
 use lib.Dec.{eqb, ltb}
 use Rattle.wire.specs.Field.{field, octets}
 use Rattle.wire.specs.Name.{maxName}
-use Rattle.table.specs.Blocks.{blocks}
+use Rattle.table.specs.Blocks.{blocks, textAt}
 use Rattle.zone.specs.Record.{Record}
 use Rattle.zone.specs.Match.{Subscription, any, cname}
 use Rattle.session.specs.Subscriptions.{maxSubscriptions, isFull}
@@ -22,7 +22,7 @@ unfoldable pub subOf : List ℕ → Subscription
 subOf b =
     record {
       id = field 2 b;
-      owner = take (getD b 6 0) (drop 7 b);
+      owner = textAt b 6 7;
       rrtype = field 2 (drop 2 b);
       rrclass = field 2 (drop 4 b);
     }

@@ -9,72 +9,61 @@ ghost use lib.Seq.{sets};
 ghost use lib.Dec.{eqb};
 ghost use Rattle.wire.specs.Field.{octets};
 ghost use Rattle.wire.specs.Name.{maxName};
-ghost use Rattle.wire.specs.Part.{part};
 ghost use Rattle.table.specs.Blocks.{blocks, cut};
 ghost use Rattle.zone.specs.Match.{any, matches as matching, wanted as wantedBy};
 ghost use Rattle.session.specs.Subscriptions.{maxSubscriptions, usesId, sameQuestion, asksAlready, isFull, without};
-ghost use Rattle.session.specs.Table.{blockSize, areaSize, subOf, subOctets, subscriptionsOf, appended, subscription, recordAsked, asksFor};
+ghost use Rattle.session.specs.Table.{blockSize, subOf, subOctets, subscriptionsOf, subscription, recordAsked, asksFor, appended};
 
 // 01: "Subscriptions: 16 a session".
 pub const SUBSCRIPTIONS: usize = 16;
 
 const MAX_NAME: usize = 255;
 
-const BLOCK: usize = 7 + MAX_NAME;
+const BLOCK: usize = OWNER + MAX_NAME;
 
 pub const AREA: usize = SUBSCRIPTIONS * BLOCK;
+
+// Where a block has its parts.
+const ID: usize = 0;
+
+const RRTYPE: usize = 2;
+
+const RRCLASS: usize = 4;
+
+const OWNER_LENGTH: usize = 6;
+
+const OWNER: usize = 7;
 
 // A type or class that asks for any, and CNAME's type.
 const ANY: u16 = 255;
 
 const CNAME: u16 = 5;
 
-// A count over the limit counts as the limit.
-fn live(count: usize) -> usize
-    ensures { λ r. ⌜ r ≡ min count maxSubscriptions ⌝ }
+// ---- one block
+
+fn has_id(block: &[u8], id: u16) -> bool
+    ensures { λ r. ⌜ r ≡ eqb (subOf (now (block .entry)) .id) id ⌝ }
 {
-    if count < SUBSCRIPTIONS {
-        count
-    } else {
-        SUBSCRIPTIONS
-    }
+    wire::field16(block, ID) == id
 }
 
-pub fn is_full(count: usize) -> bool
-    ensures { λ r. ⌜ ((area : List ℕ) → r ≡ isFull (subscriptionsOf count area)) ⌝ }
+fn owner(block: &[u8]) -> &[u8]
+    ensures { λ r. ⌜ now r ≡ subOf (now (block .entry)) .owner ⌝ }
 {
-    SUBSCRIPTIONS <= count
-}
-
-// ---- one block, at a place
-
-fn has_id(area: &[u8], at: usize, id: u16) -> bool
-    ensures { λ r. ⌜ r ≡ eqb (subOf (part (now (area .entry)) at blockSize) .id) id ⌝ }
-{
-    wire::field16(area, at) == id
-}
-
-fn owner(area: &[u8], at: usize) -> &[u8]
-    requires { ⌜ at + blockSize ≤ length (now area) ⌝ }
-    ensures { λ r. ⌜ now r ≡ subOf (part (now (area .entry)) at blockSize) .owner ⌝ }
-{
-    let from = at + 7;
-    let n = area[at + 6] as usize;
-    &area[from..from + n]
+    table::text(block, OWNER_LENGTH, OWNER)
 }
 
 // Type and class first: they are cheap to compare, and tell most apart.
-fn asks_same(area: &[u8], at: usize, name: &[u8], rrtype: u16, rrclass: u16) -> bool
-    requires { ⌜ at + blockSize ≤ length (now area) ⌝ }
-    ensures { λ r. ⌜ r ≡ sameQuestion (subscription 0 (now (name .entry)) rrtype rrclass) (subOf (part (now (area .entry)) at blockSize)) ⌝ }
+fn asks_same(block: &[u8], name: &[u8], rrtype: u16, rrclass: u16) -> bool
+    ensures { λ r. ⌜ r ≡ sameQuestion (subscription 0 (now (name .entry)) rrtype rrclass) (subOf (now (block .entry))) ⌝ }
 {
-    if wire::field16(area, at + 2) != rrtype {
+    if wire::field16(block, RRTYPE) != rrtype {
         return false;
     }
-    if wire::field16(area, at + 4) != rrclass {
+    if wire::field16(block, RRCLASS) != rrclass {
         return false;
     }
-    wire::same_name(name, owner(area, at))
+    wire::same_name(name, owner(block))
 }
 
 fn asks_value(asked: u16, held: u16) -> bool
@@ -99,28 +88,93 @@ fn asks_for(qtype: u16, qclass: u16, rrtype: u16, rrclass: u16) -> bool
     false
 }
 
-fn matches(area: &[u8], at: usize, name: &[u8], rrtype: u16, rrclass: u16) -> bool
-    requires { ⌜ at + blockSize ≤ length (now area) ⌝ }
-    ensures { λ r. ⌜ r ≡ matching (subOf (part (now (area .entry)) at blockSize)) (recordAsked (now (name .entry)) rrtype rrclass) ⌝ }
+fn matches(block: &[u8], name: &[u8], rrtype: u16, rrclass: u16) -> bool
+    ensures { λ r. ⌜ r ≡ matching (subOf (now (block .entry))) (recordAsked (now (name .entry)) rrtype rrclass) ⌝ }
 {
     if asks_for(
-        wire::field16(area, at + 2),
-        wire::field16(area, at + 4),
+        wire::field16(block, RRTYPE),
+        wire::field16(block, RRCLASS),
         rrtype,
         rrclass,
     ) {
-        return wire::same_name(owner(area, at), name);
+        return wire::same_name(owner(block), name);
     }
     false
 }
+
+// ---- all of them
+
+// A count over the limit counts as the limit.
+fn live(count: usize) -> usize
+    ensures { λ r. ⌜ r ≡ min count maxSubscriptions ⌝ }
+{
+    if count < SUBSCRIPTIONS {
+        count
+    } else {
+        SUBSCRIPTIONS
+    }
+}
+
+pub fn is_full(count: usize) -> bool
+    ensures { λ r. ⌜ ((area : List ℕ) → r ≡ isFull (subscriptionsOf count area)) ⌝ }
+{
+    SUBSCRIPTIONS <= count
+}
+
+// Whether a message ID is held by one of them.
+pub fn uses_id(area: &[u8; AREA], count: usize, id: u16) -> bool
+    ensures { λ r. ⌜ r ≡ usesId id (subscriptionsOf count (now (area .entry))) ⌝ }
+{
+    let n = live(count);
+    let mut i = 0;
+    while i < n {
+        if has_id(table::part(area, i * BLOCK, BLOCK), id) {
+            return true;
+        }
+        i += 1;
+    }
+    false
+}
+
+// Whether one of them has the same name, type and class, whatever its ID.
+pub fn asks_already(area: &[u8; AREA], count: usize, name: &[u8], rrtype: u16, rrclass: u16) -> bool
+    ensures { λ r. ⌜ r ≡ asksAlready (subscription 0 (now (name .entry)) rrtype rrclass) (subscriptionsOf count (now (area .entry))) ⌝ }
+{
+    let n = live(count);
+    let mut i = 0;
+    while i < n {
+        if asks_same(table::part(area, i * BLOCK, BLOCK), name, rrtype, rrclass) {
+            return true;
+        }
+        i += 1;
+    }
+    false
+}
+
+// Whether one of them matches a record of this name, type and class.
+pub fn wanted(area: &[u8; AREA], count: usize, name: &[u8], rrtype: u16, rrclass: u16) -> bool
+    ensures { λ r. ⌜ r ≡ wantedBy (subscriptionsOf count (now (area .entry))) (recordAsked (now (name .entry)) rrtype rrclass) ⌝ }
+{
+    let n = live(count);
+    let mut i = 0;
+    while i < n {
+        if matches(table::part(area, i * BLOCK, BLOCK), name, rrtype, rrclass) {
+            return true;
+        }
+        i += 1;
+    }
+    false
+}
+
+// ---- one more
 
 fn write_numbers(area: &mut [u8], at: usize, id: u16, rrtype: u16, rrclass: u16)
     requires { ⌜ at + blockSize ≤ length (now area) ⌝ }
     ensures { λ _. ⌜ now (area .exit) ≡ sets (now (area .entry)) at (octets 2 id ++ (octets 2 rrtype ++ octets 2 rrclass)) ⌝ }
 {
     wire::write16(area, at, id);
-    wire::write16(area, at + 2, rrtype);
-    wire::write16(area, at + 4, rrclass);
+    wire::write16(area, at + RRTYPE, rrtype);
+    wire::write16(area, at + RRCLASS, rrclass);
 }
 
 // A name behind its length.
@@ -137,122 +191,7 @@ fn write_block(area: &mut [u8], at: usize, id: u16, name: &[u8], rrtype: u16, rr
     ensures { λ _. ⌜ now (area .exit) ≡ sets (now (area .entry)) at (subOctets (subscription id (now (name .entry)) rrtype rrclass)) ⌝ }
 {
     write_numbers(area, at, id, rrtype, rrclass);
-    write_owner(area, at + 6, name);
-}
-
-// ---- all of them
-
-fn find_id(area: &[u8], count: usize, id: u16) -> bool
-    requires { ⌜ length (now area) ≡ areaSize ⌝ }
-    ensures { λ r. ⌜ r ≡ usesId id (subscriptionsOf count (now (area .entry))) ⌝ }
-{
-    let n = live(count);
-    let mut i = 0;
-    while i < n {
-        if has_id(area, i * BLOCK, id) {
-            return true;
-        }
-        i += 1;
-    }
-    false
-}
-
-fn find_question(area: &[u8], count: usize, name: &[u8], rrtype: u16, rrclass: u16) -> bool
-    requires { ⌜ length (now area) ≡ areaSize ⌝ }
-    ensures { λ r. ⌜ r ≡ asksAlready (subscription 0 (now (name .entry)) rrtype rrclass) (subscriptionsOf count (now (area .entry))) ⌝ }
-{
-    let n = live(count);
-    let mut i = 0;
-    while i < n {
-        if asks_same(area, i * BLOCK, name, rrtype, rrclass) {
-            return true;
-        }
-        i += 1;
-    }
-    false
-}
-
-fn find_match(area: &[u8], count: usize, name: &[u8], rrtype: u16, rrclass: u16) -> bool
-    requires { ⌜ length (now area) ≡ areaSize ⌝ }
-    ensures { λ r. ⌜ r ≡ wantedBy (subscriptionsOf count (now (area .entry))) (recordAsked (now (name .entry)) rrtype rrclass) ⌝ }
-{
-    let n = live(count);
-    let mut i = 0;
-    while i < n {
-        if matches(area, i * BLOCK, name, rrtype, rrclass) {
-            return true;
-        }
-        i += 1;
-    }
-    false
-}
-
-fn add_block(
-    area: &mut [u8],
-    count: usize,
-    id: u16,
-    name: &[u8],
-    rrtype: u16,
-    rrclass: u16,
-) -> usize
-    requires { ⌜ length (now area) ≡ areaSize ⌝ }
-    ensures { λ r. ⌜ subscriptionsOf r (now (area .exit)) ≡ appended (subscription id (now (name .entry)) rrtype rrclass) (subscriptionsOf count (now (area .entry))) ⌝ }
-{
-    if SUBSCRIPTIONS <= count {
-        return count;
-    }
-    if MAX_NAME < name.len() {
-        return count;
-    }
-    write_block(area, count * BLOCK, id, name, rrtype, rrclass);
-    count + 1
-}
-
-// Block i of n is gone: those behind it move down by one. How many are left.
-fn close_gap(area: &mut [u8], i: usize, n: usize) -> usize
-    requires { ⌜ (i < n) × (n ≤ maxSubscriptions) × (length (now area) ≡ areaSize) ⌝ }
-    ensures { λ r. ⌜ (r ≡ n - 1) × (blocks blockSize (n - 1) (now (area .exit)) ≡ cut i (blocks blockSize n (now (area .entry)))) ⌝ }
-{
-    let to = i * BLOCK;
-    table::slide(area, to, to + BLOCK, (n - 1 - i) * BLOCK);
-    n - 1
-}
-
-fn remove_blocks(area: &mut [u8], count: usize, id: u16) -> usize
-    requires { ⌜ length (now area) ≡ areaSize ⌝ }
-    ensures { λ r. ⌜ subscriptionsOf r (now (area .exit)) ≡ without id (subscriptionsOf count (now (area .entry))) ⌝ }
-{
-    let mut n = live(count);
-    let mut i = 0;
-    while i < n {
-        if has_id(area, i * BLOCK, id) {
-            n = close_gap(area, i, n);
-        } else {
-            i += 1;
-        }
-    }
-    n
-}
-
-// Whether a message ID is held by one of them.
-pub fn uses_id(area: &[u8; AREA], count: usize, id: u16) -> bool
-    ensures { λ r. ⌜ r ≡ usesId id (subscriptionsOf count (now (area .entry))) ⌝ }
-{
-    find_id(area, count, id)
-}
-
-// Whether one of them has the same name, type and class, whatever its ID.
-pub fn asks_already(area: &[u8; AREA], count: usize, name: &[u8], rrtype: u16, rrclass: u16) -> bool
-    ensures { λ r. ⌜ r ≡ asksAlready (subscription 0 (now (name .entry)) rrtype rrclass) (subscriptionsOf count (now (area .entry))) ⌝ }
-{
-    find_question(area, count, name, rrtype, rrclass)
-}
-
-// Whether one of them matches a record of this name, type and class.
-pub fn wanted(area: &[u8; AREA], count: usize, name: &[u8], rrtype: u16, rrclass: u16) -> bool
-    ensures { λ r. ⌜ r ≡ wantedBy (subscriptionsOf count (now (area .entry))) (recordAsked (now (name .entry)) rrtype rrclass) ⌝ }
-{
-    find_match(area, count, name, rrtype, rrclass)
+    write_owner(area, at + OWNER_LENGTH, name);
 }
 
 // One more at the end. How many there are then: as many as before where there is no room for it, or no name is so long.
@@ -266,12 +205,40 @@ pub fn append(
 ) -> usize
     ensures { λ r. ⌜ subscriptionsOf r (now (area .exit)) ≡ appended (subscription id (now (name .entry)) rrtype rrclass) (subscriptionsOf count (now (area .entry))) ⌝ }
 {
-    add_block(area, count, id, name, rrtype, rrclass)
+    if SUBSCRIPTIONS <= count {
+        return count;
+    }
+    if MAX_NAME < name.len() {
+        return count;
+    }
+    write_block(area, count * BLOCK, id, name, rrtype, rrclass);
+    count + 1
+}
+
+// ---- fewer
+
+// Block i of n is gone: those behind it move down by one. How many are left.
+fn close_gap(area: &mut [u8; AREA], i: usize, n: usize) -> usize
+    requires { ⌜ (i < n) × (n ≤ maxSubscriptions) ⌝ }
+    ensures { λ r. ⌜ (r ≡ n - 1) × (blocks blockSize (n - 1) (now (area .exit)) ≡ cut i (blocks blockSize n (now (area .entry)))) ⌝ }
+{
+    let to = i * BLOCK;
+    table::slide(area, to, to + BLOCK, (n - 1 - i) * BLOCK);
+    n - 1
 }
 
 // Without the one of an ID, if there is one. How many there are then.
 pub fn remove(area: &mut [u8; AREA], count: usize, id: u16) -> usize
     ensures { λ r. ⌜ subscriptionsOf r (now (area .exit)) ≡ without id (subscriptionsOf count (now (area .entry))) ⌝ }
 {
-    remove_blocks(area, count, id)
+    let mut n = live(count);
+    let mut i = 0;
+    while i < n {
+        if has_id(table::part(area, i * BLOCK, BLOCK), id) {
+            n = close_gap(area, i, n);
+        } else {
+            i += 1;
+        }
+    }
+    n
 }

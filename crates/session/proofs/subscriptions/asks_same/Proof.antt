@@ -8,10 +8,8 @@ pub asks-same-spec : {M : Type 1} → statement M
 asks-same-spec =
     tie.close
     (tie.spec
-    (λ c. search needs)
     (λ c κs. search needs)
     (λ c. search other-type)
-    (λ c. search needs)
     (λ c κs. search needs)
     (λ c. search other-class)
     (λ c κs. search needs)

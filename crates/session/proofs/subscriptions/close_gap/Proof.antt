@@ -7,7 +7,7 @@ use Rattle.session.proofs.subscriptions.close_gap.Statement.{statement}
 use Rattle.session.proofs.subscriptions.close_gap.Tie as tie
 
 returns : tie.Need-returns
-returns c = (refl, gap-closed _ _ _ _ (omega arith) (omega arith) (omega arith) (c .before .before .slide .ensures))
+returns c = (refl, gap-closed _ _ _ _ (omega arith) (omega arith) (omega arith) (c .slide .ensures))
 
 pub close-gap-spec : {M : Type 1} → statement M
 close-gap-spec =
@@ -19,6 +19,5 @@ close-gap-spec =
     (λ c. search needs)
     (λ c. search needs)
     (λ c κs. search needs)
-    (λ c. search needs)
     (λ c. search needs)
     returns)

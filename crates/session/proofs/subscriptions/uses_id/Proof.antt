@@ -1,4 +1,4 @@
--- `session::subscriptions::find_id` meets its contract. The loop's invariant: none of the first `i` passes the test. Assumes nothing.
+-- `session::subscriptions::uses_id` meets its contract. The loop's invariant: none of the first `i` passes the test. Assumes nothing.
 use Prim.Native.Nat.{_-_}
 use native.Mathlib.Omega.{arith}
 use borrow.Author.Needs.{needs}
@@ -6,17 +6,14 @@ use lib.Dec.{eqb}
 use Rattle.zone.specs.Match.{Subscription}
 use Rattle.session.specs.Subscriptions.{usesId}
 use Rattle.session.proofs.Table.{Passed, passed-none, passed-end, passed-found, passed-turn}
-use Rattle.session.proofs.subscriptions.find_id.Statement.{statement}
-use Rattle.session.proofs.subscriptions.find_id.Tie as tie
+use Rattle.session.proofs.subscriptions.uses_id.Statement.{statement}
+use Rattle.session.proofs.subscriptions.uses_id.Tie as tie
 
 abbrev Inv-loop : tie.InvT-loop
 Inv-loop area count id n i₀ i = Passed (λ (s : Subscription). eqb (s .id) id) count area i
 
 abbrev μ-loop : tie.MeasureT-loop
 μ-loop area count id n i₀ i = n - i
-
-has-id-requires : tie.Need-has-id-requires Inv-loop μ-loop
-has-id-requires c κs = omega arith
 
 returns : tie.Need-returns Inv-loop μ-loop
 unfolding usesId
@@ -26,8 +23,8 @@ returns-2 : tie.Need-returns-2 Inv-loop μ-loop
 unfolding usesId
 returns-2 c = search passed-end
 
-pub find-id-spec : {M : Type 1} → statement M
-find-id-spec =
+pub uses-id-spec : {M : Type 1} → statement M
+uses-id-spec =
     tie.close
     (tie.spec
     Inv-loop
@@ -35,7 +32,8 @@ find-id-spec =
     (λ c κs. search needs)
     (λ c. search passed-none)
     (λ c. omega arith)
-    has-id-requires
+    (λ c κs. search needs)
+    (λ c κs. search needs)
     returns
     (λ c. omega arith)
     (λ c. omega arith)
