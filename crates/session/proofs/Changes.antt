@@ -1,14 +1,14 @@
 -- Laws of the table's changes: a block written and read back, one subscription more, those of an ID gone.
-use Prim.Native.Nat.{ℕ, zero, suc, _+_, _-_, _*_, min, _≤_, _<_, _^_}
+use Prim.Native.Nat.{ℕ, suc, _+_, _-_, _*_, min, _≤_, _<_, _^_}
 use mathlib.Core.Path.{_≡_, refl, sym, ap, ap₂, _∙_}
-use mathlib.Core.Bool.{Bool, true, false, cond, not, _&&_, _||_}
+use mathlib.Core.Bool.{Bool, true, false, cond, not, _||_, or-true}
 use mathlib.Core.List.{List, [], _∷_, _++_, map, append-assoc, append-nil, map-append}
-use native.Mathlib.Nat.{zero-add, add-zero}
+use native.Mathlib.Nat.{add-zero}
 use native.Mathlib.Numerals.{add-one}
 use native.Mathlib.Omega.{arith}
-use lib.ListN.{length, take, drop, getD, set, length-append, length-take, length-drop, drop-of-length-le}
-use lib.Seq.{sets, take-at, drop-at, drop-drop, drop-cons, getD-drop, take-suc, take-all, length-take-le}
-use lib.Dec.{leb, ltb, eqb}
+use lib.ListN.{length, take, drop, getD, set, length-append, length-drop, drop-of-length-le}
+use lib.Seq.{sets, take-at, drop-at, drop-drop, drop-cons, take-suc, take-all, length-take-le}
+use lib.Dec.{ltb, eqb}
 use borrow.Author.Tests.{lt-ltb, le-ltb, le-leb, lt-leb}
 use Rattle.wire.specs.Field.{field, octets}
 use Rattle.wire.specs.Name.{maxName}
@@ -16,12 +16,12 @@ use Rattle.wire.specs.Part.{part}
 use Rattle.wire.proofs.Fields.{length-octets, field-octets, field-one}
 use Rattle.wire.proofs.Writes.{sets-append, sets-front, take-sets, drop-sets-add}
 use Rattle.table.specs.Blocks.{blocks, cut, slid, textAt}
-use Rattle.table.proofs.Blocks.{length-blocks, blocks-suc, blocks-past, blocks-slid, take-cut, drop-cut, map-cut}
-use Rattle.zone.specs.Lists.{keep, onlyIf}
+use Rattle.table.proofs.Blocks.{blocks-suc, blocks-past, blocks-slid, take-cut, drop-cut, map-cut}
+use Rattle.zone.specs.Lists.{onlyIf}
 use Rattle.zone.specs.Match.{Subscription}
 use Rattle.session.specs.Subscriptions.{maxSubscriptions, isFull, without}
 use Rattle.session.specs.Table.{blockSize, areaSize, subOf, subOctets, subscriptionsOf, subscription, appended}
-use Rattle.session.proofs.Table.{length-subscriptionsOf, subscriptionsOf-at, isFull-count}
+use Rattle.session.proofs.Table.{length-subscriptionsOf, subscriptionsOf-at, subscriptionsOf-few, isFull-count}
 
 -- ---- writes in a row
 
@@ -101,35 +101,30 @@ subOf-octets s h rest =
 
 -- ---- one more
 
-subscriptionsOf-few : (n : ℕ) (a : List ℕ) → n ≤ maxSubscriptions → subscriptionsOf n a ≡ map subOf (blocks blockSize n a)
-unfolding subscriptionsOf
-subscriptionsOf-few n a h = let e : min n maxSubscriptions ≡ n = omega arith in ap (λ (k : ℕ). map subOf (blocks blockSize k a)) e
+module _ (s : Subscription) (subs : List Subscription) where
+  abbrev when : Bool → Bool → List Subscription
+  when full long = cond (full || long) subs (subs ++ (s ∷ []))
+
+  pub appended-full : isFull subs ≡ true → appended s subs ≡ subs
+  unfolding appended
+  appended-full h = ap (λ (b : Bool). when b (ltb maxName (length (s .owner)))) h
+
+  pub appended-long : maxName < length (s .owner) → appended s subs ≡ subs
+  unfolding appended
+  appended-long h =
+      ap (when (isFull subs)) (lt-ltb maxName (length (s .owner)) h) ∙ ap (λ (b : Bool). cond b subs (subs ++ (s ∷ []))) (or-true (isFull subs))
+
+  pub appended-one : isFull subs ≡ false → length (s .owner) ≤ maxName → appended s subs ≡ subs ++ (s ∷ [])
+  unfolding appended
+  appended-one h k = ap₂ when h (le-ltb maxName (length (s .owner)) k)
 
 module _ (s : Subscription) (count : ℕ) (a : List ℕ) where
-  pub appended-full : maxSubscriptions ≤ count → subscriptionsOf count a ≡ appended s (subscriptionsOf count a)
-  unfolding appended
-  appended-full h =
-      let subs : List Subscription = subscriptionsOf count a in
-      sym (ap (λ (b : Bool). cond (b || ltb maxName (length (s .owner))) subs (subs ++ (s ∷ [])))
-      (sym (isFull-count count a) ∙ le-leb maxSubscriptions count h))
+  pub append-full : maxSubscriptions ≤ count → subscriptionsOf count a ≡ appended s (subscriptionsOf count a)
+  append-full h =
+      sym (appended-full s (subscriptionsOf count a) (sym (isFull-count count a) ∙ le-leb maxSubscriptions count h))
 
-  room : count < maxSubscriptions → appended s (subscriptionsOf count a)
-      ≡ cond (ltb maxName (length (s .owner))) (subscriptionsOf count a) (subscriptionsOf count a ++ (s ∷ []))
-  unfolding appended
-  room h =
-      let subs : List Subscription = subscriptionsOf count a in
-      ap (λ (b : Bool). cond (b || ltb maxName (length (s .owner))) subs (subs ++ (s ∷ [])))
-      (sym (isFull-count count a) ∙ lt-leb maxSubscriptions count h)
-
-  pub appended-long : count < maxSubscriptions → maxName < length (s .owner) → subscriptionsOf count a ≡ appended s (subscriptionsOf count a)
-  appended-long h k =
-      let subs : List Subscription = subscriptionsOf count a in
-      sym (room h ∙ ap (λ (b : Bool). cond b subs (subs ++ (s ∷ []))) (lt-ltb maxName (length (s .owner)) k))
-
-  pub appended-one : count < maxSubscriptions → length (s .owner) ≤ maxName → appended s (subscriptionsOf count a) ≡ subscriptionsOf count a ++ (s ∷ [])
-  appended-one h k =
-      let subs : List Subscription = subscriptionsOf count a in
-      room h ∙ ap (λ (b : Bool). cond b subs (subs ++ (s ∷ []))) (le-ltb maxName (length (s .owner)) k)
+  pub append-long : maxName < length (s .owner) → subscriptionsOf count a ≡ appended s (subscriptionsOf count a)
+  append-long h = sym (appended-long s (subscriptionsOf count a) h)
 
 -- The block behind the last one, written.
 pub append-written : (s : Subscription) (count : ℕ) (a b : List ℕ) → Fit s → length a ≡ areaSize → count < maxSubscriptions
@@ -154,7 +149,7 @@ append-written s count a b f l h k e =
     ∙ map-append subOf (blocks blockSize count b) (part b at blockSize ∷ [])
     ∙ ap₂ (λ (x : List (List ℕ)) (y : Subscription). map subOf x ++ (y ∷ [])) old read
     ∙ ap (λ (x : List Subscription). x ++ (s ∷ [])) (sym (subscriptionsOf-few count a (omega arith)))
-    ∙ sym (appended-one s count a h k)
+    ∙ sym (appended-one s (subscriptionsOf count a) (sym (isFull-count count a) ∙ lt-leb maxSubscriptions count h) k)
 
 -- ---- those of an ID gone
 

@@ -1,13 +1,12 @@
--- Laws of the table of subscriptions: what stands in a block, how many there are, and how a search goes through them.
-use Prim.Native.Nat.{ℕ, zero, suc, _+_, _-_, _*_, min, _≤_, _<_}
+-- Laws of the table of subscriptions: what a block asks for, how many there are, and how a search goes through them.
+use Prim.Native.Nat.{ℕ, suc, _+_, _*_, min, _≤_, _<_}
 use mathlib.Core.Path.{_≡_, refl, sym, ap, ap₂, _∙_}
-use mathlib.Core.Bool.{Bool, true, false, cond, not, _&&_, _||_}
-use mathlib.Core.List.{List, [], _∷_, _++_, map}
-use native.Mathlib.Nat.{zero-add, suc-add, add-zero}
+use mathlib.Core.Bool.{Bool, true, false, _&&_, _||_, and-true, and-false, or-true, or-false, and-assoc, and-comm}
+use mathlib.Core.List.{List, [], _∷_, map}
 use native.Mathlib.Numerals.{add-one}
 use native.Mathlib.Omega.{arith}
-use lib.ListN.{length, take, drop, getD, length-map, drop-of-length-le, List·getD-map}
-use lib.Seq.{take-nil, take-take, drop-drop, drop-cons, getD-take, getD-drop}
+use lib.ListN.{length, drop, getD, length-map, drop-of-length-le, List·getD-map}
+use lib.Seq.{drop-cons}
 use lib.Dec.{leb, eqb}
 use borrow.Author.Tests.{eq-eqb, ne-eqb, le-leb, lt-leb, leb-true, leb-false}
 use Rattle.wire.specs.Field.{field}
@@ -17,26 +16,10 @@ use Rattle.table.specs.Blocks.{blocks}
 use Rattle.table.proofs.Blocks.{length-blocks, blocks-at}
 use Rattle.zone.specs.Lists.{anyOf}
 use Rattle.zone.specs.Match.{Subscription, any, cname, matchesKey, matches}
-use Rattle.session.specs.Subscriptions.{maxSubscriptions, usesId, sameQuestion, asksAlready, isFull}
+use Rattle.session.specs.Subscriptions.{maxSubscriptions, sameQuestion, isFull}
 use Rattle.session.specs.Table.{blockSize, subOf, subscriptionsOf, subscription, recordAsked, asksFor}
 
 -- ---- what a block asks for
-
-or-true : (a : Bool) → a || true ≡ true
-or-true true = refl
-or-true false = refl
-
-or-false : (a : Bool) → a || false ≡ a
-or-false true = refl
-or-false false = refl
-
-and-false : (a : Bool) → a && false ≡ false
-and-false true = refl
-and-false false = refl
-
-and-true : (a : Bool) → a && true ≡ a
-and-true true = refl
-and-true false = refl
 
 module _ (asked held : ℕ) where
   pub asks-any : asked ≡ any → true ≡ eqb asked any || eqb asked held
@@ -73,13 +56,10 @@ pub matches-split : (s : Subscription) (name : List ℕ) (rrtype rrclass : ℕ)
     → matches s (recordAsked name rrtype rrclass) ≡ asksFor (s .rrtype) (s .rrclass) rrtype rrclass && sameName (s .owner) name
 unfolding matchesKey asksFor sameName
 matches-split s name rrtype rrclass =
-    turned (sameOctets (lowered (s .owner)) (lowered name)) (eqb (s .rrclass) any || eqb (s .rrclass) rrclass)
-    (eqb (s .rrtype) any || eqb (s .rrtype) rrtype || eqb rrtype cname)
-  where
-    turned : (a b c : Bool) → a && b && c ≡ b && c && a
-    turned a true true = and-true (a && true) ∙ and-true a
-    turned a true false = and-false (a && true)
-    turned a false c = ap (λ (t : Bool). t && c) (and-false a)
+    let n : Bool = sameOctets (lowered (s .owner)) (lowered name) in
+    let c : Bool = eqb (s .rrclass) any || eqb (s .rrclass) rrclass in
+    let t : Bool = eqb (s .rrtype) any || eqb (s .rrtype) rrtype || eqb rrtype cname in
+    and-assoc n c t ∙ and-comm n (c && t)
 
 module _ (b name : List ℕ) (rrtype rrclass : ℕ) (t : ℕ) (p : t ≡ field 2 (drop 2 b)) where
   abbrev asked : Subscription
@@ -141,6 +121,19 @@ unfolding subscriptionsOf
 subscriptionsOf-at count a i h =
     List·getD-map subOf (blocks blockSize (min count maxSubscriptions) a) i []
     ∙ ap subOf (blocks-at blockSize (min count maxSubscriptions) a i h)
+
+pub subscriptionsOf-few : (n : ℕ) (a : List ℕ) → n ≤ maxSubscriptions → subscriptionsOf n a ≡ map subOf (blocks blockSize n a)
+unfolding subscriptionsOf
+subscriptionsOf-few n a h = let e : min n maxSubscriptions ≡ n = omega arith in ap (λ (k : ℕ). map subOf (blocks blockSize k a)) e
+
+-- None at first, and some as soon as one is counted.
+pub subscriptionsOf-none : (a : List ℕ) → subscriptionsOf 0 a ≡ []
+unfolding subscriptionsOf blocks
+subscriptionsOf-none a = refl
+
+pub subscriptionsOf-some : (count : ℕ) (a : List ℕ) → 0 < count
+    → subscriptionsOf count a ≡ getD (subscriptionsOf count a) 0 (subOf []) ∷ drop 1 (subscriptionsOf count a)
+subscriptionsOf-some count a h = drop-cons (subscriptionsOf count a) 0 (subOf []) (omega (arith, length-subscriptionsOf count a))
 
 pub isFull-count : (count : ℕ) (a : List ℕ) → leb maxSubscriptions count ≡ isFull (subscriptionsOf count a)
 unfolding isFull

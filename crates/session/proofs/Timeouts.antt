@@ -1,12 +1,12 @@
 -- Laws of the two clocks: how a tick judges them, and that no tick aborts a session at the time of its start.
-use Prim.Native.Nat.{ℕ, _+_, _-_, _*_, max, _≤_, _<_}
+use Prim.Native.Nat.{ℕ, _-_, _*_, max, _≤_, _<_}
 use mathlib.Core.Path.{_≡_, refl, sym, ap, ap₂, _∙_}
 use mathlib.Core.Bool.{Bool, true, false, not, _&&_, _||_}
 use native.Mathlib.Omega.{arith}
 use lib.Dec.{leb}
 use borrow.Author.Tests.{le-leb, lt-leb}
 use Rattle.session.specs.declared.clocks.Clocks.{Clocks}
-use Rattle.session.specs.Clocks.{started, received, granted, expired, leastInactivity, firstInactivity, firstKeepalive}
+use Rattle.session.specs.Clocks.{started, received, expired, leastInactivity}
 
 -- ---- how a tick goes: the keepalive clock, then, with no subscription, the inactivity clock
 
@@ -52,6 +52,16 @@ expired-started true t = sym (expired-subscribed true t (started t) 30000 (t - t
 expired-started false t =
     sym (expired-inactive false t (started t) 30000 (t - t) refl refl (omega arith) refl 30000 (t - t) refl refl)
     ∙ lt-leb 30000 (t - t) (omega arith)
+
+-- Nor at the time of a message that restarts both clocks.
+pub expired-received : (subscribed : Bool) (t : ℕ) (c : Clocks) → 0 < c .keepalive → expired subscribed t (received false t c) ≡ false
+unfolding received
+expired-received true t c h =
+    sym (expired-subscribed true t (received false t c) (2 * c .keepalive) (t - t) refl refl (omega arith) refl)
+expired-received false t c h =
+    let limit : ℕ = max leastInactivity (2 * c .inactivity) in
+    sym (expired-inactive false t (received false t c) (2 * c .keepalive) (t - t) refl refl (omega arith) refl limit (t - t) refl refl)
+    ∙ lt-leb limit (t - t) (omega arith)
 
 -- 01, bench example 5: idle from 1,000; a tick at 30,999 lets it stay, one at 31,000 ends it.
 pub idle-stays : expired false 30999 (started 1000) ≡ false

@@ -1,7 +1,7 @@
 -- `session::subscriptions::append` meets its contract. Assumes nothing.
 use native.Mathlib.Omega.{arith}
 use borrow.Author.Needs.{needs}
-use Rattle.session.proofs.Changes.{Fit, appended-full, appended-long, append-written}
+use Rattle.session.proofs.Changes.{append-full, append-long, append-written}
 use Rattle.session.proofs.subscriptions.append.Statement.{statement}
 use Rattle.session.proofs.subscriptions.append.Tie as tie
 
@@ -13,8 +13,8 @@ pub append-spec : {M : Type 1} → statement M
 append-spec =
     tie.close
     (tie.spec
-    (λ c. search appended-full)
-    (λ c. search appended-long)
+    (λ c. search append-full)
+    (λ c. search append-long)
     (λ c. search needs)
     (λ c κs. search needs)
     (λ c. search needs)
