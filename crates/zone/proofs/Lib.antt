@@ -7,3 +7,4 @@ pub mod Layouts
 pub mod Goods
 pub mod Batches
 pub mod Edits
+pub mod Memory

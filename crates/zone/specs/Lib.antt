@@ -7,3 +7,4 @@ pub mod Layout
 pub mod Batch
 pub mod Fits
 pub mod Sound
+pub mod Table
