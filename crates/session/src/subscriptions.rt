@@ -13,7 +13,7 @@ ghost use Rattle.zone.specs.Match.{matches as matching, wanted as wantedBy};
 ghost use Rattle.session.specs.Subscriptions.{maxSubscriptions, usesId, sameQuestion, asksAlready, isFull, without};
 ghost use Rattle.session.specs.Table.{blockSize, subOf, subOctets, subscriptionsOf, subscription, recordAsked, appended};
 
-// 01: "Subscriptions: 16 a session".
+// 01: "Subscriptions: 16 a session". The limit is stated here and in the definitions.
 pub const SUBSCRIPTIONS: usize = 16;
 
 const MAX_NAME: usize = 255;
@@ -87,6 +87,7 @@ fn live(count: usize) -> usize
     }
 }
 
+// Whether there are as many as there may be.
 pub fn is_full(count: usize) -> bool
     ensures { λ r. ⌜ ((area : List ℕ) → r ≡ isFull (subscriptionsOf count area)) ⌝ }
 {
@@ -199,7 +200,7 @@ fn close_gap(area: &mut [u8; AREA], i: usize, n: usize) -> usize
     n - 1
 }
 
-// Without the one of an ID, if there is one. How many there are then.
+// Without those of an ID: in a run there is at most one. How many are left.
 pub fn remove(area: &mut [u8; AREA], count: usize, id: u16) -> usize
     ensures { λ r. ⌜ subscriptionsOf r (now (area .exit)) ≡ without id (subscriptionsOf count (now (area .entry))) ⌝ }
 {
