@@ -1,0 +1,16 @@
+-- Laws of change notifications.
+pub mod ReadBack
+pub mod Framing
+pub mod Plains
+pub mod Effects
+pub mod Covers
+pub mod Chosen
+pub mod Pigeonhole
+pub mod Firsts
+pub mod Arrive
+pub mod Subscribing
+pub mod Sizes
+pub mod Needed
+pub mod Fewest
+pub mod Few
+pub mod Quoted

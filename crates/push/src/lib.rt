@@ -1,0 +1,1 @@
+// Change notifications: which list a session is sent, and its octets.

@@ -1,0 +1,2 @@
+-- Definitions of blocks in lent memory.
+pub mod Blocks

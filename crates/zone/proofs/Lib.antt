@@ -1,0 +1,10 @@
+-- Laws of the zone, for the layers above.
+pub mod Lists
+pub mod Keys
+pub mod Stores
+pub mod Views
+pub mod Layouts
+pub mod Goods
+pub mod Batches
+pub mod Edits
+pub mod Memory

@@ -1,0 +1,176 @@
+-- Laws of the store in lent memory: its blocks, keys, the search for a key.
+use Prim.Native.Nat.{ℕ, zero, suc, min, _+_, _*_, _≤_, _<_}
+use mathlib.Core.Path.{_≡_, refl, sym, ap, ap₂, _∙_}
+use mathlib.Core.Bool.{Bool, true, false, cond, not, _&&_}
+use mathlib.Core.List.{List, [], _∷_, _++_, map}
+use mathlib.Core.Option.{Option, none, some}
+use native.Mathlib.Numerals.{add-one}
+use native.Mathlib.Omega.{arith}
+use lib.ListN.{length, take, drop, getD, length-map, List·getD-map, drop-of-length-le}
+use lib.Seq.{drop-cons, take-nil}
+use lib.Dec.{eqb}
+use borrow.Author.Tests.{eq-eqb, ne-eqb}
+use Rattle.wire.specs.Field.{field}
+use Rattle.wire.specs.Part.{part}
+use Rattle.wire.specs.Name.{after, lowered, sameOctets, sameName}
+use Rattle.wire.proofs.Names.{after-zero, after-after, sameOctets-true, sameOctets-of}
+use Rattle.table.specs.Blocks.{blocks}
+use Rattle.table.proofs.Blocks.{length-blocks, blocks-at}
+use Rattle.zone.specs.Record.{Record, Key, keyOf, sameKey}
+use Rattle.zone.specs.Batch.{maxRecords}
+use Rattle.zone.specs.Table.{blockSize, areaSize, blockAt, recOf, recordsOf, keyFrom, indexOf, foundAt}
+use Rattle.zone.specs.declared.records.Found.{Found}
+use Rattle.zone.specs.declared.records.Found.the-variants.{At, Nothing}
+use Rattle.zone.proofs.Lists.{never, clash}
+use Rattle.zone.proofs.Keys.{sameKey-true}
+
+-- ---- a block
+
+pub block-past : (a : List ℕ) (i : ℕ) (t : List ℕ) → length a ≡ areaSize → 40 ≤ i → t ≡ part a areaSize 0 → t ≡ blockAt a i
+block-past a i t l h e = e ∙ sym (ap (take blockSize) (drop-of-length-le a {i = i * blockSize} (omega arith)))
+
+module _ (b : List ℕ) where
+  pub owner-in : (t : List ℕ) → t ≡ take (field 1 b) (drop 10 b) → t ≡ recOf b .owner
+  unfolding recOf
+  owner-in t e = e
+
+  pub rrtype-in : (t : ℕ) → t ≡ field 2 (drop 2 b) → t ≡ recOf b .rrtype
+  unfolding recOf
+  rrtype-in t e = e
+
+  pub rrclass-in : (t : ℕ) → t ≡ field 2 (drop 4 b) → t ≡ recOf b .rrclass
+  unfolding recOf
+  rrclass-in t e = e
+
+  pub ttl-in : (t : ℕ) → t ≡ field 4 (drop 6 b) → t ≡ recOf b .ttl
+  unfolding recOf
+  ttl-in t e = e
+
+  pub rdata-in : (t : List ℕ) → t ≡ take (field 1 (drop 1 b)) (drop 265 b) → t ≡ recOf b .rdata
+  unfolding recOf
+  rdata-in t e = e
+
+-- ---- octets side by side
+
+pub record Same (a b : List ℕ) (i : ℕ) : Type 0 where
+  pub long : length a ≡ length b
+  pub rest : sameOctets a b ≡ sameOctets (drop i a) (drop i b)
+
+pub same-none : (a b : List ℕ) → length a ≡ length b → Same a b 0
+same-none a b h = record { long = h; rest = refl }
+
+pub other-length : (a b : List ℕ) → (length a ≡ length b → ⊥) → false ≡ sameOctets a b
+other-length a b h = sym (never (sameOctets a b) (λ e. h (ap length (sameOctets-true a b e))))
+
+module _ (a b : List ℕ) (i : ℕ) (r : Same a b i) where
+  pub same-end : length a ≤ i → true ≡ sameOctets a b
+  unfolding sameOctets
+  same-end h =
+      let k : length b ≤ i = omega (arith, r .long) in
+      sym (r .rest ∙ ap₂ sameOctets (drop-of-length-le a h) (drop-of-length-le b k))
+
+  next : i < length a → sameOctets a b ≡ eqb (getD a i 0) (getD b i 0) && sameOctets (drop (suc i) a) (drop (suc i) b)
+  unfolding sameOctets
+  next h =
+      let k : i < length b = omega (arith, r .long) in
+      r .rest ∙ ap₂ sameOctets (drop-cons a i 0 h) (drop-cons b i 0 k)
+
+  pub same-turn : i < length a → getD a i 0 ≡ getD b i 0 → Same a b (i + 1)
+  same-turn h e = record {
+    long = r .long;
+    rest = next h ∙ ap (λ (t : Bool). t && sameOctets (drop (suc i) a) (drop (suc i) b)) (eq-eqb (getD a i 0) (getD b i 0) e)
+        ∙ ap (λ (j : ℕ). sameOctets (drop j a) (drop j b)) (sym (add-one i));
+  }
+
+  pub other-octet : i < length a → (getD a i 0 ≡ getD b i 0 → ⊥) → false ≡ sameOctets a b
+  other-octet h e =
+      sym (next h ∙ ap (λ (t : Bool). t && sameOctets (drop (suc i) a) (drop (suc i) b)) (ne-eqb (getD a i 0) (getD b i 0) e))
+
+-- ---- a key, by its parts in turn
+
+module _ (r : Record) (name : List ℕ) (t c : ℕ) (d : List ℕ) where
+  equal : sameKey (keyOf r) (keyFrom name t c d) ≡ true → keyOf r ≡ keyFrom name t c d
+  equal q = sameKey-true (keyOf r) (keyFrom name t c d) q
+
+  pub key-type : (x : ℕ) → x ≡ r .rrtype → (x ≡ t → ⊥) → false ≡ sameKey (keyOf r) (keyFrom name t c d)
+  key-type x e h = sym (never (sameKey (keyOf r) (keyFrom name t c d)) (λ q. h (e ∙ ap (λ (k : Key). k .rrtype) (equal q))))
+
+  pub key-class : (x : ℕ) → x ≡ r .rrclass → (x ≡ c → ⊥) → false ≡ sameKey (keyOf r) (keyFrom name t c d)
+  key-class x e h = sym (never (sameKey (keyOf r) (keyFrom name t c d)) (λ q. h (e ∙ ap (λ (k : Key). k .rrclass) (equal q))))
+
+  pub key-rdata : (x : List ℕ) (b : Bool) → x ≡ r .rdata → b ≡ sameOctets x d → b ≡ false → false ≡ sameKey (keyOf r) (keyFrom name t c d)
+  key-rdata x b e f h =
+      sym (never (sameKey (keyOf r) (keyFrom name t c d)) (λ q. clash b (f ∙ sameOctets-of x d (e ∙ ap (λ (k : Key). k .rdata) (equal q))) h))
+
+  pub key-name : (x y : ℕ) (z o : List ℕ) (b w : Bool) → x ≡ r .rrtype → x ≡ t → y ≡ r .rrclass → y ≡ c
+      → z ≡ r .rdata → b ≡ sameOctets z d → b ≡ true → o ≡ r .owner → w ≡ sameName o name → w ≡ sameKey (keyOf r) (keyFrom name t c d)
+  unfolding sameKey sameName
+  key-name x y z o b w p q u v e f g h k =
+      let i : eqb (r .rrtype) t ≡ true = eq-eqb (r .rrtype) t (sym p ∙ q) in
+      let j : eqb (r .rrclass) c ≡ true = eq-eqb (r .rrclass) c (sym u ∙ v) in
+      let l : sameOctets (r .rdata) d ≡ true = ap (λ (m : List ℕ). sameOctets m d) (sym e) ∙ sym f ∙ g in
+      let m : w ≡ sameOctets (lowered (r .owner)) (lowered name) = k ∙ ap (λ (m : List ℕ). sameOctets (lowered m) (lowered name)) h in
+      m ∙ alone (sameOctets (lowered (r .owner)) (lowered name)) (eqb (r .rrtype) t) (eqb (r .rrclass) c) (sameOctets (r .rdata) d) i j l
+    where
+      alone : (s x y z : Bool) → x ≡ true → y ≡ true → z ≡ true → s ≡ (s && x && y && z)
+      alone true x y z p q e = cc
+      alone false x y z p q e = refl
+
+-- ---- the store as a list
+
+pub length-records : (n : ℕ) (a : List ℕ) → length (recordsOf n a) ≡ min n maxRecords
+unfolding recordsOf
+length-records n a = length-map (blocks blockSize (min n maxRecords) a) recOf ∙ length-blocks blockSize (min n maxRecords) a
+
+abbrev pub noRecord : Record
+noRecord = recOf []
+
+pub records-at : (n : ℕ) (a : List ℕ) (i : ℕ) → i < min n maxRecords → getD (recordsOf n a) i noRecord ≡ recOf (blockAt a i)
+unfolding recordsOf
+records-at n a i h =
+    List·getD-map recOf (blocks blockSize (min n maxRecords) a) i [] ∙ ap recOf (blocks-at blockSize (min n maxRecords) a i h)
+
+-- ---- the search for a key
+
+pub record Searched (k : Key) (l : List Record) (i : ℕ) : Type 0 where
+  pub rest : indexOf k l ≡ after i (indexOf k (drop i l))
+
+pub searched-none : (k : Key) (l : List Record) → Searched k l 0
+searched-none k l = record { rest = sym (after-zero (indexOf k l)) }
+
+pub searched-end : (k : Key) (a : List ℕ) (count n i : ℕ) → Searched k (recordsOf count a) i → n ≡ min count maxRecords → n ≤ i
+    → Nothing ≡ foundAt (indexOf k (recordsOf count a))
+unfolding indexOf
+searched-end k a count n i s e h =
+    let l : List Record = recordsOf count a in
+    let g : length l ≤ i = omega (arith, length-records count a) in
+    sym (ap foundAt (s .rest ∙ ap (λ (m : List Record). after i (indexOf k m)) (drop-of-length-le l g)))
+
+module _ (k : Key) (a : List ℕ) (count n i : ℕ) (b : List ℕ) (t : Bool) (s : Searched k (recordsOf count a) i)
+    (e : n ≡ min count maxRecords) (h : i < n) (f : b ≡ blockAt a i) (g : t ≡ sameKey (keyOf (recOf b)) k) where
+  store : List Record
+  store = recordsOf count a
+
+  here : indexOf k store ≡ after i (cond t (some 0) (after 1 (indexOf k (drop (suc i) store))))
+  unfolding store indexOf
+  here =
+      let l : i < min count maxRecords = omega arith in
+      let w : i < length (recordsOf count a) = omega (arith, length-records count a) in
+      let q : sameKey (keyOf (getD (recordsOf count a) i noRecord)) k ≡ t =
+      ap (λ (r : Record). sameKey (keyOf r) k) (records-at count a i l ∙ ap recOf (sym f)) ∙ sym g in
+      s .rest ∙ ap (λ (m : List Record). after i (indexOf k m)) (drop-cons (recordsOf count a) i noRecord w)
+      ∙ ap (λ (u : Bool). after i (cond u (some 0) (after 1 (indexOf k (drop (suc i) (recordsOf count a)))))) q
+
+  pub searched-found : t ≡ true → At i ≡ foundAt (indexOf k (recordsOf count a))
+  unfolding store
+  searched-found q =
+      let z : i + 0 ≡ i = omega arith in
+      sym (ap foundAt (here ∙ ap (λ (u : Bool). after i (cond u (some 0) (after 1 (indexOf k (drop (suc i) store))))) q) ∙ ap At z)
+
+  pub searched-turn : t ≡ false → Searched k (recordsOf count a) (i + 1)
+  unfolding store
+  searched-turn q = record {
+    rest = here ∙ ap (λ (u : Bool). after i (cond u (some 0) (after 1 (indexOf k (drop (suc i) store))))) q
+        ∙ after-after i 1 (indexOf k (drop (suc i) store))
+        ∙ ap (λ (j : ℕ). after (i + 1) (indexOf k (drop j store))) (sym (add-one i));
+  }

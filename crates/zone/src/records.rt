@@ -1,0 +1,134 @@
+// The store in lent memory: a count of records, and an area of blocks, each of which holds one record.
+ghost use Prim.Native.Nat.{min};
+ghost use mathlib.Core.Path.{_≡_};
+ghost use Rattle.wire.specs.Name.{sameOctets};
+ghost use Rattle.zone.specs.Record.{keyOf, sameKey};
+ghost use Rattle.zone.specs.Batch.{maxRecords};
+ghost use Rattle.zone.specs.Table.{blockAt, recOf, keyFrom, recordsOf, indexOf, foundAt};
+
+pub const RECORDS: usize = 40;
+
+pub const BLOCK: usize = 393;
+
+pub const AREA: usize = RECORDS * BLOCK;
+
+// Where a block has its parts.
+pub const OWNER_LENGTH: usize = 0;
+
+pub const RDATA_LENGTH: usize = 1;
+
+pub const RRTYPE: usize = 2;
+
+pub const RRCLASS: usize = 4;
+
+pub const TTL: usize = 6;
+
+pub const OWNER: usize = 10;
+
+pub const RDATA: usize = 265;
+
+// A block of the area; past the last one nothing.
+pub fn block(area: &[u8; AREA], i: usize) -> &[u8]
+    ensures { λ r. ⌜ now r ≡ blockAt (now (area .entry)) i ⌝ }
+{
+    if RECORDS <= i {
+        return table::part(area, AREA, 0);
+    }
+    table::part(area, i * BLOCK, BLOCK)
+}
+
+pub fn owner(block: &[u8]) -> &[u8]
+    ensures { λ r. ⌜ now r ≡ recOf (now (block .entry)) .owner ⌝ }
+{
+    table::text(block, OWNER_LENGTH, OWNER)
+}
+
+pub fn rrtype(block: &[u8]) -> u16
+    ensures { λ r. ⌜ r ≡ recOf (now (block .entry)) .rrtype ⌝ }
+{
+    wire::field16(block, RRTYPE)
+}
+
+pub fn rrclass(block: &[u8]) -> u16
+    ensures { λ r. ⌜ r ≡ recOf (now (block .entry)) .rrclass ⌝ }
+{
+    wire::field16(block, RRCLASS)
+}
+
+pub fn ttl(block: &[u8]) -> u32
+    ensures { λ r. ⌜ r ≡ recOf (now (block .entry)) .ttl ⌝ }
+{
+    wire::field32(block, TTL)
+}
+
+pub fn rdata(block: &[u8]) -> &[u8]
+    ensures { λ r. ⌜ now r ≡ recOf (now (block .entry)) .rdata ⌝ }
+{
+    table::text(block, RDATA_LENGTH, RDATA)
+}
+
+fn same_octets(a: &[u8], b: &[u8]) -> bool
+    ensures { λ r. ⌜ r ≡ sameOctets (now (a .entry)) (now (b .entry)) ⌝ }
+{
+    if a.len() != b.len() {
+        return false;
+    }
+    let mut i = 0;
+    while i < a.len() {
+        if a[i] != b[i] {
+            return false;
+        }
+        i += 1;
+    }
+    true
+}
+
+// Whether a block's record has a key. The numbers and the RDATA are looked at before the name.
+pub fn has_key(block: &[u8], name: &[u8], rrtype: u16, rrclass: u16, rdata: &[u8]) -> bool
+    ensures { λ r. ⌜ r ≡ sameKey (keyOf (recOf (now (block .entry)))) (keyFrom (now (name .entry)) rrtype rrclass (now (rdata .entry))) ⌝ }
+{
+    if self::rrtype(block) != rrtype {
+        return false;
+    }
+    if self::rrclass(block) != rrclass {
+        return false;
+    }
+    if same_octets(self::rdata(block), rdata) {
+        return wire::same_name(owner(block), name);
+    }
+    false
+}
+
+// Where a record stands in a store.
+pub enum Found {
+    At(usize),
+    Nothing,
+}
+
+// A count over 40 counts as 40.
+pub fn clamped(count: usize) -> usize
+    ensures { λ r. ⌜ r ≡ min count maxRecords ⌝ }
+{
+    if count < RECORDS { count } else { RECORDS }
+}
+
+pub fn find(
+    area: &[u8; AREA],
+    count: usize,
+    name: &[u8],
+    rrtype: u16,
+    rrclass: u16,
+    rdata: &[u8],
+) -> Found
+    ensures { λ r. ⌜ r ≡ foundAt (indexOf (keyFrom (now (name .entry)) rrtype rrclass (now (rdata .entry))) (recordsOf count (now (area .entry)))) ⌝ }
+{
+    let n = clamped(count);
+    let mut i = 0;
+    while i < n {
+        if has_key(block(area, i), name, rrtype, rrclass, rdata) {
+            return Found::At(i);
+        }
+        i += 1;
+    }
+    Found::Nothing
+}
