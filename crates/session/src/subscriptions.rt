@@ -22,6 +22,9 @@ const BLOCK: usize = OWNER + MAX_NAME;
 
 pub const AREA: usize = SUBSCRIPTIONS * BLOCK;
 
+// A session's lent memory.
+pub type Area = [u8; AREA];
+
 // Where a block has its parts.
 const ID: usize = 0;
 
@@ -95,7 +98,7 @@ pub fn is_full(count: usize) -> bool
 }
 
 // Whether a message ID is held by one of them.
-pub fn uses_id(area: &[u8; AREA], count: usize, id: u16) -> bool
+pub fn uses_id(area: &Area, count: usize, id: u16) -> bool
     ensures { λ r. ⌜ r ≡ usesId id (subscriptionsOf count (now (area .entry))) ⌝ }
 {
     let n = live(count);
@@ -110,7 +113,7 @@ pub fn uses_id(area: &[u8; AREA], count: usize, id: u16) -> bool
 }
 
 // Whether one of them has the same name, type and class, whatever its ID.
-pub fn asks_already(area: &[u8; AREA], count: usize, name: &[u8], rrtype: u16, rrclass: u16) -> bool
+pub fn asks_already(area: &Area, count: usize, name: &[u8], rrtype: u16, rrclass: u16) -> bool
     ensures { λ r. ⌜ r ≡ asksAlready (subscription 0 (now (name .entry)) rrtype rrclass) (subscriptionsOf count (now (area .entry))) ⌝ }
 {
     let n = live(count);
@@ -125,7 +128,7 @@ pub fn asks_already(area: &[u8; AREA], count: usize, name: &[u8], rrtype: u16, r
 }
 
 // Whether one of them matches a record of this name, type and class.
-pub fn wanted(area: &[u8; AREA], count: usize, name: &[u8], rrtype: u16, rrclass: u16) -> bool
+pub fn wanted(area: &Area, count: usize, name: &[u8], rrtype: u16, rrclass: u16) -> bool
     ensures { λ r. ⌜ r ≡ wantedBy (subscriptionsOf count (now (area .entry))) (recordAsked (now (name .entry)) rrtype rrclass) ⌝ }
 {
     let n = live(count);
@@ -169,7 +172,7 @@ fn write_block(area: &mut [u8], at: usize, id: u16, name: &[u8], rrtype: u16, rr
 
 // One more at the end. How many there are then: as many as before where there is no room for it, or no name is so long.
 pub fn append(
-    area: &mut [u8; AREA],
+    area: &mut Area,
     count: usize,
     id: u16,
     name: &[u8],
@@ -191,7 +194,7 @@ pub fn append(
 // ---- fewer
 
 // Block i of n is gone: those behind it move down by one. How many are left.
-fn close_gap(area: &mut [u8; AREA], i: usize, n: usize) -> usize
+fn close_gap(area: &mut Area, i: usize, n: usize) -> usize
     requires { ⌜ (i < n) × (n ≤ maxSubscriptions) ⌝ }
     ensures { λ r. ⌜ (r ≡ n - 1) × (blocks blockSize (n - 1) (now (area .exit)) ≡ cut i (blocks blockSize n (now (area .entry)))) ⌝ }
 {
@@ -201,7 +204,7 @@ fn close_gap(area: &mut [u8; AREA], i: usize, n: usize) -> usize
 }
 
 // Without those of an ID: in a run there is at most one. How many are left.
-pub fn remove(area: &mut [u8; AREA], count: usize, id: u16) -> usize
+pub fn remove(area: &mut Area, count: usize, id: u16) -> usize
     ensures { λ r. ⌜ subscriptionsOf r (now (area .exit)) ≡ without id (subscriptionsOf count (now (area .entry))) ⌝ }
 {
     let mut n = live(count);
