@@ -2,11 +2,11 @@
 -- that need the session (an ID in use, the zone, the limit), which are the server's. "Abort" is 01's forcible abort:
 -- RFC 8490, 5.3: "'forcibly abort' ... means sending a TCP RST or the equivalent for other protocols".
 use Prim.Native.Nat.{ℕ, _+_, _-_}
-use mathlib.Core.Bool.{Bool, true, false, cond, not, _||_}
+use mathlib.Core.Bool.{Bool, false, cond, not, _||_}
 use mathlib.Core.List.{List, [], _∷_}
 use mathlib.Core.Option.{Option, none, some}
 use lib.ListN.{length, drop}
-use lib.Dec.{leb, ltb, eqb}
+use lib.Dec.{ltb, eqb}
 use Rattle.wire.specs.Field.{field}
 use Rattle.wire.specs.Name.{nameLength}
 use Rattle.dso.specs.Header.{headerLength, dsoOpcode, messageId, isResponse, opcode, noRecords}
@@ -15,7 +15,6 @@ use Rattle.dso.specs.declared.judgment.MessageId.{MessageId}
 use Rattle.dso.specs.declared.judgment.Place.{Place}
 use Rattle.dso.specs.declared.judgment.Question.{Question}
 use Rattle.dso.specs.declared.judgment.Record.{Record}
-use Rattle.dso.specs.declared.judgment.ReplyCode.{ReplyCode}
 use Rattle.dso.specs.declared.judgment.ReplyCode.the-variants.{FormErr, DsoTypeNi}
 use Rattle.dso.specs.declared.judgment.Judgment.{Judgment}
 use Rattle.dso.specs.declared.judgment.Judgment.the-variants.{NotOurs, Abort, Reply, Keepalive, Subscribe, Unsubscribe, Reconfirm}
