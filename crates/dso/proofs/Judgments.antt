@@ -20,8 +20,8 @@ use Rattle.dso.proofs.Openings.{form-primary, form-settled}
 use Rattle.dso.specs.Steps.{wellFormed}
 use Rattle.dso.specs.Parts.{firstData, Sound, SubscribeParts, ReconfirmParts}
 use Rattle.dso.specs.declared.judgment.MessageId.{MessageId}
-use Rattle.dso.specs.declared.judgment.Question.{Question}
-use Rattle.dso.specs.declared.judgment.Record.{Record}
+use Rattle.dso.specs.declared.judgment.QuestionPlaces.{QuestionPlaces}
+use Rattle.dso.specs.declared.judgment.RecordPlaces.{RecordPlaces}
 use Rattle.dso.specs.declared.judgment.ReplyCode.the-variants.{FormErr, DsoTypeNi}
 use Rattle.dso.specs.declared.judgment.Judgment.{Judgment}
 use Rattle.dso.specs.declared.judgment.Judgment.the-variants.{NotOurs, Abort, Reply, Keepalive, Subscribe, Unsubscribe, Reconfirm}
@@ -125,7 +125,7 @@ module _ (m : List ℕ) (n : ℕ) (named : nameLength (firstData m) ≡ some n) 
   name-there : isName (take n (drop 16 m)) ≡ true
   name-there = ap isName (sym (take-take n (field 2 (drop 14 m)) (drop 16 m) (omega (arith, shorter)))) ∙ isName-take (firstData m) n named
 
-pub subscribe-parts : (m : List ℕ) (i : MessageId) (q : Question) → judgment m ≡ Subscribe i q → SubscribeParts m i q
+pub subscribe-parts : (m : List ℕ) (i : MessageId) (q : QuestionPlaces) → judgment m ≡ Subscribe i q → SubscribeParts m i q
 subscribe-parts m i q e =
     let s : Sound (messageId m) (firstData m) (Subscribe i q) = subst (Sound (messageId m) (firstData m)) e (judgment-sound m) in
     let a = s .2 in
@@ -139,7 +139,7 @@ subscribe-parts m i q e =
       room = omega (arith, a .size, data-room m (a .n) (a .named) size);
     }
 
-pub reconfirm-parts : (m : List ℕ) (r : Record) → judgment m ≡ Reconfirm r → ReconfirmParts m r
+pub reconfirm-parts : (m : List ℕ) (r : RecordPlaces) → judgment m ≡ Reconfirm r → ReconfirmParts m r
 reconfirm-parts m r e =
     let s : Sound (messageId m) (firstData m) (Reconfirm r) = subst (Sound (messageId m) (firstData m)) e (judgment-sound m) in
     let a = s .1 in

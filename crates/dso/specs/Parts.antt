@@ -10,8 +10,8 @@ use Rattle.wire.specs.Name.{nameLength, isName}
 use Rattle.dso.specs.Header.{messageId}
 use Rattle.dso.specs.Judge.{dataStart, question, disputed}
 use Rattle.dso.specs.declared.judgment.MessageId.{MessageId}
-use Rattle.dso.specs.declared.judgment.Question.{Question}
-use Rattle.dso.specs.declared.judgment.Record.{Record}
+use Rattle.dso.specs.declared.judgment.QuestionPlaces.{QuestionPlaces}
+use Rattle.dso.specs.declared.judgment.RecordPlaces.{RecordPlaces}
 use Rattle.dso.specs.declared.judgment.ReplyCode.{ReplyCode}
 use Rattle.dso.specs.declared.judgment.ReplyCode.the-variants.{FormErr, ServFail, NotAuth, DsoTypeNi}
 use Rattle.dso.specs.declared.judgment.Judgment.{Judgment}
@@ -29,14 +29,14 @@ FromOctets NotAuth = ⊥
 FromOctets DsoTypeNi = Unit {0}
 
 -- A SUBSCRIBE's data v: a name of n octets, a type and a class, and its places in the message.
-pub record Asks (v : List ℕ) (q : Question) : Type 0 where
+pub record Asks (v : List ℕ) (q : QuestionPlaces) : Type 0 where
   pub n : ℕ
   pub named : nameLength v ≡ some n
   pub size : length v ≡ n + 4
   pub places : q ≡ question n
 
 -- A RECONFIRM's data v: a name of n octets, a type, a class and RDATA, and their places.
-pub record Disputes (v : List ℕ) (r : Record) : Type 0 where
+pub record Disputes (v : List ℕ) (r : RecordPlaces) : Type 0 where
   pub n : ℕ
   pub named : nameLength v ≡ some n
   pub size : n + 4 ≤ length v
@@ -54,7 +54,7 @@ Sound id v (Unsubscribe i) = (id ≡ 0) × (i .0 ≡ field 2 v) × (length v ≡
 Sound id v (Reconfirm r) = (id ≡ 0) × Disputes v r
 
 -- The parts of a SUBSCRIBE in its message: its name stands there whole, and its type and class behind it.
-pub record SubscribeParts (m : List ℕ) (i : MessageId) (q : Question) : Type 0 where
+pub record SubscribeParts (m : List ℕ) (i : MessageId) (q : QuestionPlaces) : Type 0 where
   pub n : ℕ
   pub id : i .0 ≡ messageId m
   pub answered : i .0 ≡ 0 → ⊥
@@ -63,7 +63,7 @@ pub record SubscribeParts (m : List ℕ) (i : MessageId) (q : Question) : Type 0
   pub room : dataStart + n + 4 ≤ length m
 
 -- The parts of a RECONFIRM in its message: d octets of data, a name, type and class in front, and the rest RDATA.
-pub record ReconfirmParts (m : List ℕ) (r : Record) : Type 0 where
+pub record ReconfirmParts (m : List ℕ) (r : RecordPlaces) : Type 0 where
   pub n : ℕ
   pub d : ℕ
   pub places : r ≡ disputed n d
