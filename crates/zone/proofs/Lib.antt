@@ -7,3 +7,6 @@ pub mod Layouts
 pub mod Goods
 pub mod Batches
 pub mod Memory
+pub mod Written
+pub mod Updates
+pub mod Filled

@@ -8,3 +8,4 @@ pub mod Batch
 pub mod Fits
 pub mod Sound
 pub mod Table
+pub mod Update

@@ -1,5 +1,6 @@
 // The zone: resource records, the store, matching, and batches of edits.
 mod records;
+mod update;
 
 // Why a batch is refused (01, answers 16, 14, 15 and 17).
 pub enum BatchFault {
