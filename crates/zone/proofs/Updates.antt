@@ -18,7 +18,7 @@ use Rattle.zone.specs.Record.{Record, Key, keyOf, sameKey}
 use Rattle.zone.specs.Store.{withTtl, setIf, remove}
 use Rattle.zone.specs.Batch.{maxRecords}
 use Rattle.zone.specs.Table.{blockSize, areaSize, blockAt, recOf, recordsOf}
-use Rattle.zone.specs.Update.{keyed, timed, timedIf, DroppedIf}
+use Rattle.zone.specs.Update.{keyed, TtlSet, TtlSetIf, DroppedIf}
 use Rattle.zone.proofs.Lists.{keep-append}
 use Rattle.zone.proofs.Memory.{noRecord, length-records, records-at}
 use Rattle.zone.proofs.Written.{field-before, field-written}
@@ -94,59 +94,45 @@ module _ (p : Record → Bool) (l₀ l m : List Record) (i : ℕ) (d : Record) w
 record-there : (n : ℕ) (a : List ℕ) (i : ℕ) → n ≤ maxRecords → i < n → getD (recordsOf n a) i noRecord ≡ recOf (blockAt a i)
 record-there n a i h g = records-at n a i (omega (arith, min-eq-left h))
 
-module _ (k : Key) (t : ℕ) (a : List ℕ) (i n : ℕ) (l : length a ≡ areaSize) (h : n ≤ maxRecords) (g : i < n) (f : t < 256 ^ 4) where
-  timed-by : (b : Bool)
-      → recordsOf n (cond b (timed a i t) a) ≡ set (recordsOf n a) i (cond b (withTtl t (recOf (blockAt a i))) (recOf (blockAt a i)))
-  timed-by true =
-      records-sets n a i 6 (octets 4 t) h g (omega (arith, length-octets 4 t))
-      ∙ ap (set (recordsOf n a) i) (recOf-timed (blockAt a i) t (omega (arith, length-block a i l (omega arith))) f)
-  timed-by false =
-      sym (ap (set (recordsOf n a) i) (sym (record-there n a i h g)) ∙ set-getD (recordsOf n a) i noRecord)
+pub ttl-set : (t : ℕ) (a : List ℕ) (i : ℕ) (b : List ℕ) → length a ≡ areaSize → i < maxRecords → t < 256 ^ 4
+    → b ≡ sets a (i * blockSize + 6) (octets 4 t) → TtlSet t a i b
+ttl-set t a i b l h f e = record {
+  store = λ n m g. ap (recordsOf n) e ∙ records-sets n a i 6 (octets 4 t) m g (omega (arith, length-octets 4 t))
+      ∙ ap (set (recordsOf n a) i) (recOf-timed (blockAt a i) t (omega (arith, length-block a i l h)) f);
+}
 
-  pub records-timedIf : recordsOf n (timedIf k t a i) ≡ set (recordsOf n a) i (setIf k t (getD (recordsOf n a) i noRecord))
-  unfolding timedIf
-  records-timedIf =
-      timed-by (keyed a i k) ∙ ap (λ (r : Record). set (recordsOf n a) i (setIf k t r)) (sym (record-there n a i h g))
+module _ (k : Key) (t : ℕ) (a : List ℕ) (i : ℕ) (b c : List ℕ) (u : Bool) (e : c ≡ blockAt a i) (f : u ≡ sameKey (keyOf (recOf c)) k) where
+  tested : keyed a i k ≡ u
+  tested = ap (λ (c : List ℕ). sameKey (keyOf (recOf c)) k) (sym e) ∙ sym f
 
-length-timedIf : (k : Key) (t : ℕ) (a : List ℕ) (i : ℕ) → length (timedIf k t a i) ≡ length a
-unfolding timedIf
-length-timedIf k t a i = go (keyed a i k)
-  where
-    go : (b : Bool) → length (cond b (timed a i t) a) ≡ length a
-    go true = length-sets a (i * blockSize + 6) (octets 4 t)
-    go false = refl
+  chosen : (v : Bool) → u ≡ v → setIf k t (recOf (blockAt a i)) ≡ cond v (withTtl t (recOf (blockAt a i))) (recOf (blockAt a i))
+  chosen v g = ap (λ (x : Bool). cond x (withTtl t (recOf (blockAt a i))) (recOf (blockAt a i))) (tested ∙ g)
 
-pub timedIf-true : (k : Key) (t : ℕ) (a : List ℕ) (i : ℕ) (b c : List ℕ) (u : Bool) → c ≡ blockAt a i → u ≡ sameKey (keyOf (recOf c)) k → u ≡ true
-    → b ≡ timed a i t → b ≡ timedIf k t a i
-unfolding timedIf
-timedIf-true k t a i b c u e f g h =
-    h ∙ ap (λ (u : Bool). cond u (timed a i t) a) (sym g ∙ f ∙ ap (λ (c : List ℕ). sameKey (keyOf (recOf c)) k) e)
+  pub ttl-set-true : u ≡ true → TtlSet t a i b → TtlSetIf k t a i b
+  ttl-set-true g s = record { store = λ n m h. s .store n m h ∙ ap (set (recordsOf n a) i) (sym (chosen true g)) }
 
-pub timedIf-false : (k : Key) (t : ℕ) (a : List ℕ) (i : ℕ) (c : List ℕ) (u : Bool) → c ≡ blockAt a i → u ≡ sameKey (keyOf (recOf c)) k → u ≡ false
-    → a ≡ timedIf k t a i
-unfolding timedIf
-timedIf-false k t a i c u e f g =
-    ap (λ (u : Bool). cond u (timed a i t) a) (sym g ∙ f ∙ ap (λ (c : List ℕ). sameKey (keyOf (recOf c)) k) e)
+  pub ttl-set-false : u ≡ false → TtlSetIf k t a i a
+  ttl-set-false g = record {
+    store = λ n m h. sym (ap (set (recordsOf n a) i) (chosen false g ∙ sym (record-there n a i m h)) ∙ set-getD (recordsOf n a) i noRecord);
+  }
 
 -- The loop over all records: those before i have their TTL.
 pub record Timed (k : Key) (t n : ℕ) (a b : List ℕ) (i : ℕ) : Type 0 where
   pub few : i ≤ n
-  pub long : length b ≡ areaSize
   pub store : map (setIf k t) (recordsOf n a) ≡ take i (recordsOf n b) ++ map (setIf k t) (drop i (recordsOf n b))
 
-pub timed-none : (k : Key) (t n : ℕ) (a : List ℕ) → length a ≡ areaSize → Timed k t n a a 0
-timed-none k t n a l = record { few = omega arith; long = l; store = refl }
+pub timed-none : (k : Key) (t n : ℕ) (a : List ℕ) → Timed k t n a a 0
+timed-none k t n a = record { few = omega arith; store = refl }
 
-pub timed-turn : (k : Key) (t n : ℕ) (a b : List ℕ) (i : ℕ) (c : List ℕ) → Timed k t n a b i → n ≤ maxRecords → i < n → t < 256 ^ 4
-    → c ≡ timedIf k t b i → Timed k t n a c (i + 1)
-timed-turn k t n a b i c s h g f e =
+pub timed-turn : (k : Key) (t n : ℕ) (a b : List ℕ) (i : ℕ) (c : List ℕ) → Timed k t n a b i → n ≤ maxRecords → i < n
+    → TtlSetIf k t b i c → Timed k t n a c (i + 1)
+timed-turn k t n a b i c s h g e =
     let w = length-records n b in
     let m = min-eq-left h in
     record {
       few = omega arith;
-      long = ap length e ∙ length-timedIf k t b i ∙ s .long;
       store = sweep (setIf k t) (recordsOf n a) (recordsOf n b) (recordsOf n c) i noRecord (omega arith) (s .store)
-          (ap (recordsOf n) e ∙ records-timedIf k t b i n (s .long) h g f);
+          (e .store n h g ∙ ap (λ (r : Record). set (recordsOf n b) i (setIf k t r)) (sym (record-there n b i h g)));
     }
 
 pub timed-all : (k : Key) (t n : ℕ) (a b : List ℕ) (i : ℕ) → Timed k t n a b i → n ≤ maxRecords → n ≤ i

@@ -18,11 +18,11 @@ ghost use Rattle.table.specs.Blocks.{cut};
 ghost use Rattle.zone.specs.Store.{setIf, remove as removed};
 ghost use Rattle.zone.specs.Batch.{maxRecords};
 ghost use Rattle.zone.specs.Table.{blockSize, areaSize, recordsOf, recordFrom, keyFrom};
-ghost use Rattle.zone.specs.Update.{timed, timedIf, numbered, DroppedIf};
+ghost use Rattle.zone.specs.Update.{TtlSet, TtlSetIf, DroppedIf, numbered};
 
 fn set_ttl(area: &mut [u8; AREA], i: usize, ttl: u32)
     requires { ⌜ i < maxRecords ⌝ }
-    ensures { λ _. ⌜ now (area .exit) ≡ timed (now (area .entry)) i ttl ⌝ }
+    ensures { λ _. ⌜ TtlSet ttl (now (area .entry)) i (now (area .exit)) ⌝ }
 {
     wire::write32(area, i * BLOCK + TTL, ttl);
 }
@@ -37,7 +37,7 @@ fn set_ttl_if(
     ttl: u32,
 )
     requires { ⌜ i < maxRecords ⌝ }
-    ensures { λ _. ⌜ now (area .exit) ≡ timedIf (keyFrom (now (name .entry)) rrtype rrclass (now (rdata .entry))) ttl (now (area .entry)) i ⌝ }
+    ensures { λ _. ⌜ TtlSetIf (keyFrom (now (name .entry)) rrtype rrclass (now (rdata .entry))) ttl (now (area .entry)) i (now (area .exit)) ⌝ }
 {
     if has_key(block(area, i), name, rrtype, rrclass, rdata) {
         set_ttl(area, i, ttl);
