@@ -10,3 +10,4 @@ pub mod Memory
 pub mod Written
 pub mod Updates
 pub mod Filled
+pub mod Edits

@@ -9,3 +9,4 @@ pub mod Fits
 pub mod Sound
 pub mod Table
 pub mod Update
+pub mod Edit

@@ -3,14 +3,17 @@ use Prim.Native.Nat.{ℕ, _+_, _≤_, _<_}
 use mathlib.Core.Path.{_≡_}
 use mathlib.Core.Bool.{Bool, cond}
 use mathlib.Core.List.{List}
+use mathlib.Core.Option.{Option, none, some}
 use lib.ListN.{set}
 use lib.Seq.{sets}
 use Rattle.wire.specs.Field.{octets}
 use Rattle.table.specs.Blocks.{cut}
 use Rattle.zone.specs.Record.{Record, Key, keyOf, sameKey}
 use Rattle.zone.specs.Store.{withTtl, setIf}
-use Rattle.zone.specs.Batch.{maxRecords}
+use Rattle.zone.specs.Batch.{maxRecords, overfull, edit}
 use Rattle.zone.specs.Table.{blockAt, recOf, recordsOf}
+use Rattle.zone.specs.declared.update.Applied.{Applied}
+use Rattle.zone.specs.declared.update.Applied.the-variants.{Count, Full}
 
 -- Whether the record in a block has a key.
 abbrev pub keyed : List ℕ → ℕ → Key → Bool
@@ -32,3 +35,19 @@ pub record DroppedIf (k : Key) (area : List ℕ) (n i : ℕ) (after : List ℕ) 
   pub few : m ≤ n
   pub most : n ≤ m + 1
   pub store : recordsOf m after ≡ cond (keyed area i k) (cut i (recordsOf n area)) (recordsOf n area)
+
+-- The count that an edit gives, and the store; none where a put finds 40 others.
+abbrev pub countOf : Applied → ℕ
+countOf (Count n) = n
+countOf Full = 0
+
+abbrev pub storeOf : Applied → List ℕ → Option (List Record)
+storeOf (Count n) after = some (recordsOf n after)
+storeOf Full after = none
+
+unfoldable pub applied : List Record → Record → Option (List Record)
+applied store r = cond (overfull store r) none (some (edit store r))
+
+pub record AppliedAs (area : List ℕ) (n : ℕ) (r : Record) (a : Applied) (after : List ℕ) : Type 0 where
+  pub few : countOf a ≤ maxRecords
+  pub store : storeOf a after ≡ applied (recordsOf n area) r

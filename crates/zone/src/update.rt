@@ -1,4 +1,6 @@
-// Changes of the store in lent memory: a TTL set, a record removed and the gap closed, a record added at the end.
+// Changes of the store in lent memory: a TTL set, a record removed and the gap closed, a record added at the end; one edit.
+use crate::edit::MAX_TTL;
+use crate::records::Found;
 use crate::records::AREA;
 use crate::records::BLOCK;
 use crate::records::OWNER;
@@ -8,6 +10,7 @@ use crate::records::RRCLASS;
 use crate::records::RRTYPE;
 use crate::records::TTL;
 use crate::records::block;
+use crate::records::find;
 use crate::records::has_key;
 
 ghost use Prim.Native.Nat.{_+_, _-_, _≤_, _<_};
@@ -16,9 +19,10 @@ ghost use mathlib.Core.List.{[], _∷_, _++_, map};
 ghost use lib.ListN.{length};
 ghost use Rattle.table.specs.Blocks.{cut};
 ghost use Rattle.zone.specs.Store.{setIf, remove as removed};
-ghost use Rattle.zone.specs.Batch.{maxRecords};
+ghost use Rattle.wire.specs.Name.{maxName};
+ghost use Rattle.zone.specs.Batch.{maxRecords, maxRdata, maxTtl};
 ghost use Rattle.zone.specs.Table.{blockSize, areaSize, recordsOf, recordFrom, keyFrom};
-ghost use Rattle.zone.specs.Update.{TtlSet, TtlSetIf, DroppedIf, numbered};
+ghost use Rattle.zone.specs.Update.{TtlSet, TtlSetIf, DroppedIf, AppliedAs, numbered};
 
 fn set_ttl(area: &mut [u8; AREA], i: usize, ttl: u32)
     requires { ⌜ i < maxRecords ⌝ }
@@ -92,7 +96,7 @@ fn remove_if(
 }
 
 // Every record with a key, from the last to the first; the count that is left.
-pub fn remove(
+fn remove(
     area: &mut [u8; AREA],
     count: usize,
     name: &[u8],
@@ -131,7 +135,7 @@ fn append(
     ttl: u32,
     rdata: &[u8],
 )
-    requires { ⌜ (n < maxRecords) × (length (now name) ≤ 255) × (length (now rdata) ≤ 128) ⌝ }
+    requires { ⌜ (n < maxRecords) × (length (now name) ≤ maxName) × (length (now rdata) ≤ maxRdata) ⌝ }
     ensures { λ _. ⌜ recordsOf (n + 1) (now (area .exit)) ≡ recordsOf n (now (area .entry)) ++ (recordFrom (now (name .entry)) rrtype rrclass ttl (now (rdata .entry)) ∷ []) ⌝ }
 {
     let at = n * BLOCK;
@@ -140,4 +144,52 @@ fn append(
     write_numbers(area, at, rrtype, rrclass, ttl);
     wire::write_octets(area, at + OWNER, name);
     wire::write_octets(area, at + RDATA, rdata);
+}
+
+// How many records there are after an edit; or a put found 40 others.
+pub enum Applied {
+    Count(usize),
+    Full,
+}
+
+fn put(
+    area: &mut [u8; AREA],
+    n: usize,
+    name: &[u8],
+    rrtype: u16,
+    rrclass: u16,
+    ttl: u32,
+    rdata: &[u8],
+) -> Applied
+    requires { ⌜ (n ≤ maxRecords) × (length (now name) ≤ maxName) × (length (now rdata) ≤ maxRdata) × (ttl ≤ maxTtl) ⌝ }
+    ensures { λ r. ⌜ AppliedAs (now (area .entry)) n (recordFrom (now (name .entry)) rrtype rrclass ttl (now (rdata .entry))) r (now (area .exit)) ⌝ }
+{
+    if let Found::At(_) = find(area, n, name, rrtype, rrclass, rdata) {
+        set_ttls(area, n, name, rrtype, rrclass, rdata, ttl);
+        return Applied::Count(n);
+    }
+    if RECORDS <= n {
+        return Applied::Full;
+    }
+    append(area, n, name, rrtype, rrclass, ttl, rdata);
+    Applied::Count(n + 1)
+}
+
+// One edit: a put, or the removal of what has the key.
+pub(crate) fn apply(
+    area: &mut [u8; AREA],
+    n: usize,
+    name: &[u8],
+    rrtype: u16,
+    rrclass: u16,
+    ttl: u32,
+    rdata: &[u8],
+) -> Applied
+    requires { ⌜ (n ≤ maxRecords) × (length (now name) ≤ maxName) × (length (now rdata) ≤ maxRdata) ⌝ }
+    ensures { λ r. ⌜ AppliedAs (now (area .entry)) n (recordFrom (now (name .entry)) rrtype rrclass ttl (now (rdata .entry))) r (now (area .exit)) ⌝ }
+{
+    if ttl <= MAX_TTL {
+        return put(area, n, name, rrtype, rrclass, ttl, rdata);
+    }
+    Applied::Count(remove(area, n, name, rrtype, rrclass, rdata))
 }
