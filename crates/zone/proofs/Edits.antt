@@ -31,7 +31,7 @@ use Rattle.zone.specs.declared.edit.CheckedEdit.{CheckedEdit}
 use Rattle.zone.specs.declared.edit.CheckedEdit.the-variants.{Good, Fault}
 use Rattle.zone.proofs.Lists.{never, clash}
 use Rattle.zone.proofs.Goods.{allowed-parts}
-use Rattle.zone.proofs.Layouts.{recordIn, readRecord-nameless, readRecord-some, readRecord-none, readRecord-stands}
+use Rattle.zone.proofs.Layouts.{size-le, recordIn, readRecord-nameless, readRecord-some, readRecord-none, readRecord-stands}
 
 -- ---- values
 
@@ -200,4 +200,33 @@ module _ (s : List ℕ) (at : ℕ) (m : EditReading) (h : m ≡ editAt s at) whe
           let q : recordOf s e ≡ r = ap (recordOf s) (sym w) ∙ recordOf-edit s at r g in
           record { there = g ∙ ap {B = Option Record} some (sym q); back = ap (editOf at) q ∙ w }
 
+-- It lies within the octets.
+pub places-within : (s : List ℕ) (at : ℕ) (e : Edit) → Places s at e → e .start + e .namelen + fixedSize + e .rdlen ≤ length s
+unfolding size
+places-within s at e p =
+    let r : Record = recordOf s e in
+    let a : at ≡ e .start = ap (λ (x : Edit). x .start) (p .back) in
+    let b : length (r .owner) ≡ e .namelen = ap (λ (x : Edit). x .namelen) (p .back) in
+    let c : length (r .rdata) ≡ e .rdlen = ap (λ (x : Edit). x .rdlen) (p .back) in
+    omega (arith, size-le (drop at s) r (p .there), length-drop at s)
+
 -- ---- what was checked
+
+pub checked-unread : (zone s : List ℕ) (at : ℕ) (m : EditReading) → m ≡ editAt s at → m ≡ reads.Unreadable → Fault Unreadable ≡ checkedAt zone s at
+unfolding checkedAt
+checked-unread zone s at m h f = rw (edit-none s at m h f, checkedAt)
+
+module _ (zone s : List ℕ) (at : ℕ) (m : EditReading) (e : Edit) (n d : List ℕ) (b : Bool) (h : m ≡ editAt s at) (f : m ≡ reads.Read e)
+    (i : n ≡ part s (e .start) (e .namelen)) (j : d ≡ part s (e .start + e .namelen + fixedSize) (e .rdlen))
+    (g : b ≡ allowed zone (recordFrom n (e .rrtype) (e .rrclass) (e .ttl) d)) where
+  value : allowed zone (recordOf s e) ≡ b
+  value =
+      sym (g ∙ ap₂ (λ (n d : List ℕ). allowed zone (recordFrom n (e .rrtype) (e .rrclass) (e .ttl) d)) i j)
+
+  pub checked-bad : b ≡ false → Fault BadValue ≡ checkedAt zone s at
+  unfolding checkedAt
+  checked-bad q = let p = edit-read s at m h e f in rw (p .there, value, q, checkedAt)
+
+  pub checked-good : b ≡ true → Good e ≡ checkedAt zone s at
+  unfolding checkedAt
+  checked-good q = let p = edit-read s at m h e f in ap {B = CheckedEdit} Good (sym (p .back)) ∙ rw (p .there, value, q, checkedAt)

@@ -106,10 +106,10 @@ pub fn checked_edit(zone: &[u8], bytes: &[u8], at: usize) -> CheckedEdit
     let EditReading::Read(e) = read_edit(bytes, at) else {
         return CheckedEdit::Fault(crate::BatchFault::Unreadable);
     };
+    let start = e.start;
     let namelen = e.namelen;
-    let rdlen = e.rdlen;
-    let name = part(bytes, at, namelen);
-    let rdata = part(bytes, at + namelen + FIXED, rdlen);
+    let name = part(bytes, start, namelen);
+    let rdata = part(bytes, start + namelen + FIXED, e.rdlen);
     if allowed(zone, name, e.rrtype, e.rrclass, e.ttl, rdata) {
         return CheckedEdit::Good(e);
     }

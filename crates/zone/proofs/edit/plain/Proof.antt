@@ -1,0 +1,11 @@
+-- `zone::edit::plain` meets its contract. Assumes nothing.
+use Rattle.zone.proofs.Edits.{plain-zero, plain-else}
+use Rattle.zone.proofs.edit.plain.Statement.{statement}
+use Rattle.zone.proofs.edit.plain.Tie as tie
+
+pub plain-spec : {M : Type 1} → statement M
+plain-spec =
+    tie.close
+    (tie.spec
+    (λ c. search plain-zero)
+    (λ c. search plain-else))

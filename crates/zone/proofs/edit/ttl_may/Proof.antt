@@ -1,0 +1,11 @@
+-- `zone::edit::ttl_may` meets its contract. Assumes nothing.
+use Rattle.zone.proofs.Edits.{ttl-puts, ttl-else}
+use Rattle.zone.proofs.edit.ttl_may.Statement.{statement}
+use Rattle.zone.proofs.edit.ttl_may.Tie as tie
+
+pub ttl-may-spec : {M : Type 1} → statement M
+ttl-may-spec =
+    tie.close
+    (tie.spec
+    (λ c. search ttl-puts)
+    (λ c. search ttl-else))
