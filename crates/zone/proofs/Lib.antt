@@ -10,4 +10,5 @@ pub mod Memory
 pub mod Written
 pub mod Updates
 pub mod Filled
+pub mod Applies
 pub mod Edits

@@ -10,3 +10,4 @@ pub mod Sound
 pub mod Table
 pub mod Update
 pub mod Edit
+pub mod Batches

@@ -1,4 +1,5 @@
 // The zone: resource records, the store, matching, and batches of edits.
+mod batch;
 mod edit;
 mod records;
 mod update;
