@@ -12,3 +12,4 @@ pub mod Updates
 pub mod Filled
 pub mod Applies
 pub mod Edits
+pub mod Steps
