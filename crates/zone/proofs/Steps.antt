@@ -15,7 +15,7 @@ use Rattle.wire.proofs.Writes.{take-written}
 use Rattle.table.specs.Blocks.{blocks}
 use Rattle.zone.specs.Record.{Record}
 use Rattle.zone.specs.Layout.{fixedSize, size, readRecord}
-use Rattle.zone.specs.Batch.{maxRecords, maxEdits, maxRdata, allowed, overfull, edit, stored, faulty, edited, batchOf}
+use Rattle.zone.specs.Batch.{maxRecords, maxEdits, maxRdata, allowed, overfull, edit, Edited, stored, faulty, edited, batchOf}
 use Rattle.zone.specs.Table.{blockSize, recOf, recordsOf, recordFrom}
 use Rattle.zone.specs.Edit.{editOf, recordOf, checkedAt}
 use Rattle.zone.specs.Update.{storeOf, countOf, applied, AppliedAs}
@@ -215,3 +215,8 @@ unfolding recordsOf
 records-clamped count n a e =
     let h : n ≤ maxRecords = omega (arith, min-le-right count maxRecords) in
     ap (λ (m : ℕ). map recOf (blocks blockSize m a)) (min-eq-left h ∙ e)
+
+pub batched : (zone bytes new old : List ℕ) (count n : ℕ) (a : List ℕ) (x : Edited) → length new ≡ length old → a ≡ sets new 0 old
+    → n ≡ min count maxRecords → x ≡ batchOf zone bytes (recordsOf n a) → x ≡ batchOf zone bytes (recordsOf count old)
+batched zone bytes new old count n a x l e f g =
+    g ∙ ap (batchOf zone bytes) (records-clamped count n a f ∙ ap (recordsOf count) (copied new old a l e))
