@@ -24,11 +24,11 @@ use Rattle.zone.specs.Table.{recordFrom}
 use Rattle.zone.specs.Edit.{editOf, recordOf, editAt, ttlMay, checkedAt}
 use Rattle.zone.specs.declared.BatchFault.{BatchFault}
 use Rattle.zone.specs.declared.BatchFault.the-variants.{BadValue, Unreadable}
-use Rattle.zone.specs.declared.edit.Edit.{Edit}
-use Rattle.zone.specs.declared.edit.EditReading.{EditReading}
-use Rattle.zone.specs.declared.edit.EditReading.the-variants as reads
-use Rattle.zone.specs.declared.edit.CheckedEdit.{CheckedEdit}
-use Rattle.zone.specs.declared.edit.CheckedEdit.the-variants.{Good, Fault}
+use Rattle.zone.specs.declared.reading.Edit.{Edit}
+use Rattle.zone.specs.declared.reading.EditReading.{EditReading}
+use Rattle.zone.specs.declared.reading.EditReading.the-variants as reads
+use Rattle.zone.specs.declared.reading.CheckedEdit.{CheckedEdit}
+use Rattle.zone.specs.declared.reading.CheckedEdit.the-variants.{Good, Fault}
 use Rattle.zone.proofs.Lists.{never, clash}
 use Rattle.zone.proofs.Goods.{allowed-parts}
 use Rattle.zone.proofs.Layouts.{size-le, recordIn, readRecord-nameless, readRecord-some, readRecord-none, readRecord-stands}

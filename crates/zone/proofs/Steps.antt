@@ -22,15 +22,15 @@ use Rattle.zone.specs.Update.{storeOf, countOf, applied, AppliedAs}
 use Rattle.zone.specs.Batches.{onward, counted, Steps, editedOf}
 use Rattle.zone.specs.declared.BatchFault.{BatchFault}
 use Rattle.zone.specs.declared.BatchFault.the-variants.{TooManyEdits, Unreadable, BadValue, StoreFull}
-use Rattle.zone.specs.declared.edit.Edit.{Edit}
-use Rattle.zone.specs.declared.edit.CheckedEdit.{CheckedEdit}
-use Rattle.zone.specs.declared.edit.CheckedEdit.the-variants.{Good, Fault}
+use Rattle.zone.specs.declared.reading.Edit.{Edit}
+use Rattle.zone.specs.declared.reading.CheckedEdit.{CheckedEdit}
+use Rattle.zone.specs.declared.reading.CheckedEdit.the-variants.{Good, Fault}
 use Rattle.zone.specs.declared.update.Applied.{Applied}
 use Rattle.zone.specs.declared.update.Applied.the-variants.{Count, Full}
-use Rattle.zone.specs.declared.batch.Stepped.{Stepped}
-use Rattle.zone.specs.declared.batch.Stepped.the-variants.{Next, Stop}
-use Rattle.zone.specs.declared.batch.BatchResult.{BatchResult}
-use Rattle.zone.specs.declared.batch.BatchResult.the-variants.{Stored, Faulty}
+use Rattle.zone.specs.declared.editing.Stepped.{Stepped}
+use Rattle.zone.specs.declared.editing.Stepped.the-variants.{Next, Stop}
+use Rattle.zone.specs.declared.editing.BatchResult.{BatchResult}
+use Rattle.zone.specs.declared.editing.BatchResult.the-variants.{Stored, Faulty}
 use Rattle.zone.proofs.Goods.{allowed-parts}
 use Rattle.zone.proofs.Layouts.{readRecord-stands}
 use Rattle.zone.proofs.Batches.{edited-end, edited-more, edited-unreadable, edited-bad, edited-full, edited-step}

@@ -6,10 +6,10 @@ use lib.ListN.{drop}
 use Rattle.zone.specs.Record.{Record}
 use Rattle.zone.specs.Batch.{maxRecords, Edited, stored, faulty, edited}
 use Rattle.zone.specs.Table.{recordsOf}
-use Rattle.zone.specs.declared.batch.Stepped.{Stepped}
-use Rattle.zone.specs.declared.batch.Stepped.the-variants.{Next, Stop}
-use Rattle.zone.specs.declared.batch.BatchResult.{BatchResult}
-use Rattle.zone.specs.declared.batch.BatchResult.the-variants.{Stored, Faulty}
+use Rattle.zone.specs.declared.editing.Stepped.{Stepped}
+use Rattle.zone.specs.declared.editing.Stepped.the-variants.{Next, Stop}
+use Rattle.zone.specs.declared.editing.BatchResult.{BatchResult}
+use Rattle.zone.specs.declared.editing.BatchResult.the-variants.{Stored, Faulty}
 
 -- What is left of a batch after a step, when k more edits may come.
 abbrev pub onward : ℕ → List ℕ → List ℕ → Stepped → List ℕ → Edited

@@ -10,11 +10,11 @@ use Rattle.zone.specs.Record.{Record}
 use Rattle.zone.specs.Layout.{fixedSize, readRecord}
 use Rattle.zone.specs.Batch.{maxTtl, removeTtl, allowed}
 use Rattle.zone.specs.Table.{recordFrom}
-use Rattle.zone.specs.declared.edit.Edit.{Edit}
-use Rattle.zone.specs.declared.edit.EditReading.{EditReading}
-use Rattle.zone.specs.declared.edit.EditReading.the-variants.{Read, Unreadable}
-use Rattle.zone.specs.declared.edit.CheckedEdit.{CheckedEdit}
-use Rattle.zone.specs.declared.edit.CheckedEdit.the-variants.{Good, Fault}
+use Rattle.zone.specs.declared.reading.Edit.{Edit}
+use Rattle.zone.specs.declared.reading.EditReading.{EditReading}
+use Rattle.zone.specs.declared.reading.EditReading.the-variants.{Read, Unreadable}
+use Rattle.zone.specs.declared.reading.CheckedEdit.{CheckedEdit}
+use Rattle.zone.specs.declared.reading.CheckedEdit.the-variants.{Good, Fault}
 use Rattle.zone.specs.declared.BatchFault.the-variants.{BadValue}
 use Rattle.zone.specs.declared.BatchFault.the-variants as fault
 

@@ -1,8 +1,8 @@
 // Changes of the store in lent memory: a TTL set, a record removed and the gap closed, a record added at the end; one edit.
-use crate::edit::MAX_TTL;
-use crate::records::Found;
+use crate::reading::MAX_TTL;
 use crate::records::AREA;
 use crate::records::BLOCK;
+use crate::records::Found;
 use crate::records::OWNER;
 use crate::records::RDATA;
 use crate::records::RECORDS;
@@ -12,7 +12,6 @@ use crate::records::TTL;
 use crate::records::block;
 use crate::records::find;
 use crate::records::has_key;
-
 ghost use Prim.Native.Nat.{_+_, _-_, _≤_, _<_};
 ghost use mathlib.Core.Path.{_≡_};
 ghost use mathlib.Core.List.{[], _∷_, _++_, map};

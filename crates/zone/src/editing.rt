@@ -1,14 +1,13 @@
 // A batch of edits, applied in a second area: the old one is only read, so a refused batch leaves the store as it was.
 use crate::BatchFault;
-use crate::edit::CheckedEdit;
-use crate::edit::FIXED;
-use crate::edit::checked_edit;
+use crate::reading::CheckedEdit;
+use crate::reading::FIXED;
+use crate::reading::checked_edit;
 use crate::records::AREA;
 use crate::records::clamped;
 use crate::update::Applied;
 use crate::update::apply;
 use table::part;
-
 ghost use Prim.Native.Nat.{_≤_, _<_};
 ghost use mathlib.Core.Path.{_≡_};
 ghost use lib.ListN.{length};
@@ -16,6 +15,7 @@ ghost use Rattle.zone.specs.Batch.{maxRecords, batchOf};
 ghost use Rattle.zone.specs.Table.{recordsOf};
 ghost use Rattle.zone.specs.Batches.{Steps, editedOf};
 
+// The most edits of a batch.
 pub const EDITS: usize = 32;
 
 // Where the next edit begins and how many records there are now; or why the batch is refused.
@@ -75,7 +75,13 @@ fn edit_all(zone: &[u8], bytes: &[u8], count: usize, area: &mut [u8; AREA]) -> B
     BatchResult::Stored(n)
 }
 
-pub fn batch(zone: &[u8], bytes: &[u8], old: &[u8; AREA], count: usize, new: &mut [u8; AREA]) -> BatchResult
+pub fn batch(
+    zone: &[u8],
+    bytes: &[u8],
+    old: &[u8; AREA],
+    count: usize,
+    new: &mut [u8; AREA],
+) -> BatchResult
     ensures { λ r. ⌜ editedOf r (now (new .exit)) ≡ batchOf (now (zone .entry)) (now (bytes .entry)) (recordsOf count (now (old .entry))) ⌝ }
 {
     wire::write_octets(new, 0, old);

@@ -1,27 +1,26 @@
 // One edit of a batch: reading it, and whether its values are allowed.
+use crate::records::MAX_RDATA;
 use table::part;
 use wire::NameReading;
 use wire::field16;
 use wire::field32;
 use wire::name_at;
-
 ghost use mathlib.Core.Path.{_≡_};
 ghost use Rattle.zone.specs.Batch.{isPut, isPlain, removeTtl, allowed as allowedIn};
 ghost use Rattle.zone.specs.Table.{recordFrom};
 ghost use Rattle.zone.specs.Edit.{editAt, ttlMay, checkedAt};
 ghost use lib.Dec.{eqb};
 
-pub const MAX_RDATA: usize = 128;
-
 // A TTL up to this one puts; the other one removes.
-pub const MAX_TTL: u32 = 0x7fff_ffff;
-pub const REMOVE_TTL: u32 = 0xffff_ffff;
+pub(crate) const MAX_TTL: u32 = 0x7fff_ffff;
+
+const REMOVE_TTL: u32 = 0xffff_ffff;
 
 // The value that asks for any type or class.
 const ANY: u16 = 255;
 
 // The octets of type, class, TTL and RDLEN.
-pub const FIXED: usize = 10;
+pub(crate) const FIXED: usize = 10;
 
 // An edit in a batch's octets: where it begins, how long its name and its RDATA are, and its numbers.
 pub struct Edit {

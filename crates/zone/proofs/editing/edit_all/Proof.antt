@@ -1,10 +1,10 @@
--- `zone::batch::edit_all` meets its contract. The loop's invariant: what is left of the batch gives the outcome. Assumes nothing.
+-- `zone::editing::edit_all` meets its contract. The loop's invariant: what is left of the batch gives the outcome. Assumes nothing.
 use native.Mathlib.Omega.{arith}
 use Rattle.zone.specs.Table.{recordsOf}
 use Rattle.zone.proofs.Steps.{Midway, midway-none, midway-end, midway-over, midway-stop, midway-turn}
 use borrow.Author.Needs.{needs}
-use Rattle.zone.proofs.batch.edit_all.Statement.{statement}
-use Rattle.zone.proofs.batch.edit_all.Tie as tie
+use Rattle.zone.proofs.editing.edit_all.Statement.{statement}
+use Rattle.zone.proofs.editing.edit_all.Tie as tie
 
 abbrev Inv-loop : tie.InvT-loop
 Inv-loop zone bytes count area₀ at₀ n₀ left₀ area at n left = Midway zone bytes (recordsOf count area₀) left at n area

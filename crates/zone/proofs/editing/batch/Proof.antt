@@ -1,9 +1,9 @@
--- `zone::batch::batch` meets its contract. Assumes nothing.
+-- `zone::editing::batch` meets its contract. Assumes nothing.
 use native.Mathlib.Omega.{arith}
 use Rattle.zone.proofs.Steps.{batched}
 use borrow.Author.Needs.{needs}
-use Rattle.zone.proofs.batch.batch.Statement.{statement}
-use Rattle.zone.proofs.batch.batch.Tie as tie
+use Rattle.zone.proofs.editing.batch.Statement.{statement}
+use Rattle.zone.proofs.editing.batch.Tie as tie
 
 pub batch-spec : {M : Type 1} → statement M
 batch-spec =

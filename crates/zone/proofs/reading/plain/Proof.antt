@@ -1,7 +1,7 @@
--- `zone::edit::plain` meets its contract. Assumes nothing.
+-- `zone::reading::plain` meets its contract. Assumes nothing.
 use Rattle.zone.proofs.Edits.{plain-zero, plain-else}
-use Rattle.zone.proofs.edit.plain.Statement.{statement}
-use Rattle.zone.proofs.edit.plain.Tie as tie
+use Rattle.zone.proofs.reading.plain.Statement.{statement}
+use Rattle.zone.proofs.reading.plain.Tie as tie
 
 pub plain-spec : {M : Type 1} → statement M
 plain-spec =

@@ -1,9 +1,9 @@
--- `zone::edit::read_edit` meets its contract. Assumes nothing.
+-- `zone::reading::read_edit` meets its contract. Assumes nothing.
 use native.Mathlib.Omega.{arith}
 use Rattle.zone.proofs.Edits.{name-within, edit-nameless, edit-short, edit-whole}
 use borrow.Author.Needs.{needs}
-use Rattle.zone.proofs.edit.read_edit.Statement.{statement}
-use Rattle.zone.proofs.edit.read_edit.Tie as tie
+use Rattle.zone.proofs.reading.read_edit.Statement.{statement}
+use Rattle.zone.proofs.reading.read_edit.Tie as tie
 
 pub read-edit-spec : {M : Type 1} → statement M
 read-edit-spec =

@@ -1,9 +1,9 @@
--- `zone::batch::step` meets its contract. Assumes nothing.
+-- `zone::editing::step` meets its contract. Assumes nothing.
 use native.Mathlib.Omega.{arith}
 use Rattle.zone.proofs.Steps.{checked-places, checked-within, checked-name, checked-rdata, step-fault, step-full, step-next}
 use borrow.Author.Needs.{needs}
-use Rattle.zone.proofs.batch.step.Statement.{statement}
-use Rattle.zone.proofs.batch.step.Tie as tie
+use Rattle.zone.proofs.editing.step.Statement.{statement}
+use Rattle.zone.proofs.editing.step.Tie as tie
 
 pub step-spec : {M : Type 1} → statement M
 step-spec =

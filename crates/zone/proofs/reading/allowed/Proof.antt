@@ -1,8 +1,8 @@
--- `zone::edit::allowed` meets its contract. Assumes nothing.
+-- `zone::reading::allowed` meets its contract. Assumes nothing.
 use Rattle.zone.proofs.Edits.{allowed-rdata, allowed-ttl, allowed-type, allowed-class, allowed-name}
 use borrow.Author.Needs.{needs}
-use Rattle.zone.proofs.edit.allowed.Statement.{statement}
-use Rattle.zone.proofs.edit.allowed.Tie as tie
+use Rattle.zone.proofs.reading.allowed.Statement.{statement}
+use Rattle.zone.proofs.reading.allowed.Tie as tie
 
 pub allowed-spec : {M : Type 1} → statement M
 allowed-spec =

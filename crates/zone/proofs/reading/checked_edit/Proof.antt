@@ -1,9 +1,9 @@
--- `zone::edit::checked_edit` meets its contract. Assumes nothing.
+-- `zone::reading::checked_edit` meets its contract. Assumes nothing.
 use native.Mathlib.Omega.{arith}
 use Rattle.zone.proofs.Edits.{edit-read, places-within, checked-unread, checked-bad, checked-good}
 use borrow.Author.Needs.{needs}
-use Rattle.zone.proofs.edit.checked_edit.Statement.{statement}
-use Rattle.zone.proofs.edit.checked_edit.Tie as tie
+use Rattle.zone.proofs.reading.checked_edit.Statement.{statement}
+use Rattle.zone.proofs.reading.checked_edit.Tie as tie
 
 pub checked-edit-spec : {M : Type 1} → statement M
 checked-edit-spec =
