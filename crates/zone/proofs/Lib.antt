@@ -11,5 +11,5 @@ pub mod Written
 pub mod Updates
 pub mod Filled
 pub mod Applies
-pub mod Edits
+pub mod Readings
 pub mod Steps

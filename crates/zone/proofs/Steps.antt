@@ -34,7 +34,7 @@ use Rattle.zone.specs.declared.editing.BatchResult.the-variants.{Stored,
 use Rattle.zone.proofs.Goods.{allowed-parts}
 use Rattle.zone.proofs.Layouts.{readRecord-stands}
 use Rattle.zone.proofs.Batches.{edited-end, edited-more, edited-unreadable, edited-bad, edited-full, edited-step}
-use Rattle.zone.proofs.Edits.{Places, recordOf-edit, places-within}
+use Rattle.zone.proofs.Readings.{Places, recordOf-edit, places-within}
 
 -- ---- an edit that was checked
 

@@ -1,5 +1,5 @@
 -- `zone::reading::allowed` meets its contract. Assumes nothing.
-use Rattle.zone.proofs.Edits.{allowed-rdata, allowed-ttl, allowed-type, allowed-class, allowed-name}
+use Rattle.zone.proofs.Readings.{allowed-rdata, allowed-ttl, allowed-type, allowed-class, allowed-name}
 use borrow.Author.Needs.{needs}
 use Rattle.zone.proofs.reading.allowed.Statement.{statement}
 use Rattle.zone.proofs.reading.allowed.Tie as tie

@@ -1,6 +1,6 @@
 -- `zone::reading::checked_edit` meets its contract. Assumes nothing.
 use native.Mathlib.Omega.{arith}
-use Rattle.zone.proofs.Edits.{edit-read, places-within, checked-unread, checked-bad, checked-good}
+use Rattle.zone.proofs.Readings.{edit-read, places-within, checked-unread, checked-bad, checked-good}
 use borrow.Author.Needs.{needs}
 use Rattle.zone.proofs.reading.checked_edit.Statement.{statement}
 use Rattle.zone.proofs.reading.checked_edit.Tie as tie

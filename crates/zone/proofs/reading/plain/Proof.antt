@@ -1,5 +1,5 @@
 -- `zone::reading::plain` meets its contract. Assumes nothing.
-use Rattle.zone.proofs.Edits.{plain-zero, plain-else}
+use Rattle.zone.proofs.Readings.{plain-zero, plain-else}
 use Rattle.zone.proofs.reading.plain.Statement.{statement}
 use Rattle.zone.proofs.reading.plain.Tie as tie
 

@@ -1,6 +1,6 @@
 -- `zone::reading::read_edit` meets its contract. Assumes nothing.
 use native.Mathlib.Omega.{arith}
-use Rattle.zone.proofs.Edits.{name-within, edit-nameless, edit-short, edit-whole}
+use Rattle.zone.proofs.Readings.{name-within, edit-nameless, edit-short, edit-whole}
 use borrow.Author.Needs.{needs}
 use Rattle.zone.proofs.reading.read_edit.Statement.{statement}
 use Rattle.zone.proofs.reading.read_edit.Tie as tie

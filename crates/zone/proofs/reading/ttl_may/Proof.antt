@@ -1,5 +1,5 @@
 -- `zone::reading::ttl_may` meets its contract. Assumes nothing.
-use Rattle.zone.proofs.Edits.{ttl-puts, ttl-else}
+use Rattle.zone.proofs.Readings.{ttl-puts, ttl-else}
 use Rattle.zone.proofs.reading.ttl_may.Statement.{statement}
 use Rattle.zone.proofs.reading.ttl_may.Tie as tie
 
