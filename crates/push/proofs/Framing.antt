@@ -1,51 +1,40 @@
 -- Messages behind their lengths, and PUSH messages: what is written is read back.
-use Prim.Native.Nat.{ℕ, zero, suc, _+_, _-_, _≤_, _<_}
-use mathlib.Core.Path.{_≡_, refl, sym, ap, ap₂, _∙_, subst}
-use mathlib.Core.Bool.{Bool, true, false, cond, _&&_}
+use Prim.Native.Nat.{ℕ, zero, suc, _+_, _≤_, _<_}
+use mathlib.Core.Path.{_≡_, refl, sym, ap, ap₂, _∙_}
+use mathlib.Core.Bool.{Bool, true, false, cond, not, _&&_}
 use mathlib.Core.List.{List, [], _∷_, _++_, append-assoc, append-nil}
 use mathlib.Core.Option.{Option, none, some}
 use native.Mathlib.Nat.{le-of-suc-le-suc, not-suc-le-zero}
 use native.Mathlib.Omega.{arith}
-use lib.ListN.{length, take, drop, length-append, length-take, length-drop}
-use lib.Seq.{take-append-seam, drop-append-seam, length-take-le, drop-at}
-use lib.Dec.{leb, eqb}
-use borrow.Author.Tests.{leb-true, le-leb, eq-eqb}
+use lib.ListN.{length, take, drop, length-append, length-take}
+use lib.Seq.{take-append-seam, drop-at}
+use lib.Dec.{leb, eqb, lit<}
+use lib.Pow.{areBytes}
+use borrow.Author.Tests.{leb-true, le-leb, lt-leb, eq-eqb}
 use Rattle.wire.specs.Field.{field, octets}
-use Rattle.wire.proofs.Fields.{field-octets, length-octets}
+use Rattle.wire.proofs.Fields.{field-octets, length-octets, octets-areBytes, areBytes-append}
+use Rattle.dso.specs.Header.{headerLength, dsoOpcode, messageId, flags, isResponse, opcode, noRecords}
+use Rattle.dso.specs.Tlv.{Tlv, tlvs}
+use Rattle.dso.specs.Judge.{pushType}
+use Rattle.dso.specs.Response.{header, tlvOctets, tlvsOctets, framed}
+use Rattle.dso.proofs.Responses.{header-id, header-flags, header-noRecords, header-drop, header-length, tlvs-octets}
 use Rattle.zone.specs.Lists.{allOf}
+use Rattle.zone.proofs.Lists.{and-left, and-right, never}
 use Rattle.push.specs.Change.{Change}
-use Rattle.push.specs.Octets.{changesOctets, unidirectional, pushType, pushOctets, pushOf, changesIn}
-use Rattle.push.specs.Plain.{plainChange, changesSize}
-use Rattle.push.specs.Frames.{
-  frameOf,
-  oneMore,
-  framesIn,
-  messageId,
-  qr,
-  opcode,
-  countless,
-  headerSize,
-  isUnidirectional,
-  tlvHeaderSize,
-  firstType,
-  firstLength,
-  isPushMessage,
-  oneAtLeast,
-  pushIn,
-}
-use Rattle.push.proofs.ReadBack.{changesIn-changes, length-changesOctets}
+use Rattle.push.specs.Octets.{changesOctets, unidirectionalFlags, pushMessage, pushOctets, pushOf, changesIn}
+use Rattle.push.specs.Measure.{bytes}
+use Rattle.push.specs.Plain.{plainChange}
+use Rattle.push.specs.Frames.{frameOf, oneMore, framesIn, isUnidirectional, oneAtLeast, changesOf, pushIn}
+use Rattle.push.proofs.ReadBack.{changesIn-changes, length-changesOctets, changesOctets-areBytes}
 
 -- ---- a message behind its length
 
--- A message as it stands on a stream.
-abbrev pub framed : List ℕ → List ℕ
-framed m = octets 2 (length m) ++ m
-
 pub length-framed : (m : List ℕ) → length (framed m) ≡ 2 + length m
-unfolding octets
+unfolding framed octets
 length-framed m = omega arith
 
 framed-rest : (m rest : List ℕ) → framed m ++ rest ≡ octets 2 (length m) ++ (m ++ rest)
+unfolding framed
 framed-rest m rest = append-assoc (octets 2 (length m)) m rest
 
 pub frameOf-framed : (m rest : List ℕ) → length m < 65536 → frameOf (framed m ++ rest) ≡ some m
@@ -54,7 +43,8 @@ frameOf-framed m rest h =
     let l = octets 2 (length m) ++ (m ++ rest) in
     let n : field 2 l ≡ length m = field-octets 2 (length m) (m ++ rest) h in
     let d : drop 2 l ≡ m ++ rest = drop-at (octets 2 (length m)) (m ++ rest) 2 (length-octets 2 (length m)) in
-    let e : length l ≡ 2 + length (m ++ rest) = length-append (octets 2 (length m)) (m ++ rest) ∙ ap (λ (k : ℕ). k + length (m ++ rest)) (length-octets 2 (length m)) in
+    let e : length l ≡ 2 + length (m ++ rest) =
+    length-append (octets 2 (length m)) (m ++ rest) ∙ ap (λ (k : ℕ). k + length (m ++ rest)) (length-octets 2 (length m)) in
     let t : leb (2 + field 2 l) (length l) ≡ true = le-leb (2 + field 2 l) (length l) (omega (arith, n, e, length-append m rest)) in
     ap frameOf (framed-rest m rest)
     ∙ ap (λ (b : Bool). cond b (some (take (field 2 l) (drop 2 l))) none) t
@@ -95,7 +85,8 @@ pub framesIn-read : (l m : List ℕ) → frameOf l ≡ some m → framesIn 0 l �
 framesIn-read [] m h = absurd (omega (arith, frameOf-le [] m h))
 framesIn-read (b ∷ l) m h =
     let e : 2 + length m ≡ suc (suc (length m)) = omega arith in
-    let s : framesIn (suc (length m)) l ≡ framesIn 0 (drop (suc (length m)) l) = framesIn-drop (suc (length m)) l (omega (arith, frameOf-le (b ∷ l) m h)) in
+    let s : framesIn (suc (length m)) l ≡ framesIn 0 (drop (suc (length m)) l) =
+    framesIn-drop (suc (length m)) l (omega (arith, frameOf-le (b ∷ l) m h)) in
     front b l m h ∙ rw e (ap (oneMore m) s)
 
 -- A message in front of others.
@@ -106,56 +97,59 @@ framesIn-framed m rest h =
 
 -- ---- a PUSH message
 
--- A PUSH message with its changes' octets d.
-abbrev pub pushMessage : List ℕ → List ℕ
-pushMessage d = unidirectional ++ (octets 2 pushType ++ (octets 2 (length d) ++ d))
+module _ (cs : List Change) where
+  abbrev tlv : Tlv
+  tlv = record { kind = pushType; value = changesOctets cs }
 
-pub length-pushMessage : (d : List ℕ) → length (pushMessage d) ≡ 16 + length d
-unfolding octets
-length-pushMessage d = omega arith
+  abbrev behind : List ℕ
+  behind = tlvsOctets (tlv ∷ [])
 
-pub pushMessage-isPush : (d : List ℕ) → isPushMessage (pushMessage d) ≡ true
-unfolding isUnidirectional field octets
-pushMessage-isPush d =
-    rw (le-leb headerSize (length (pushMessage d)) (omega (arith, length-pushMessage d)))
+  length-behind : length behind ≡ 4 + length (changesOctets cs)
+  unfolding tlvsOctets tlvOctets octets
+  length-behind = omega (arith, ap length (append-nil (changesOctets cs)))
 
--- The TLV's length is that of the changes' octets, and ends with the message.
-first-length : (d : List ℕ) → length d < 65536 → firstLength (pushMessage d) ≡ length d
-unfolding octets
-first-length d h = field-octets 2 (length d) d h
+  pub length-pushMessage : length (pushMessage cs) ≡ 16 + bytes cs
+  unfolding pushMessage
+  length-pushMessage =
+      omega (arith, header-length 0 unidirectionalFlags behind, length-behind, length-changesOctets cs)
 
-pub pushMessage-data : (d : List ℕ) → drop (headerSize + tlvHeaderSize) (pushMessage d) ≡ d
-unfolding octets
-pushMessage-data d = refl
+  flags-are : flags (pushMessage cs) ≡ unidirectionalFlags
+  unfolding pushMessage
+  flags-are = header-flags 0 unidirectionalFlags behind (lit< tt)
 
-pub pushIn-message : (d : List ℕ) → length d < 65536 → pushIn (pushMessage d) ≡ oneAtLeast (changesIn 0 d)
-unfolding pushIn
-pushIn-message d h =
-    let m = pushMessage d in
-    let e : eqb (headerSize + tlvHeaderSize + firstLength m) (length m) ≡ true =
-    eq-eqb (headerSize + tlvHeaderSize + firstLength m) (length m) (omega (arith, first-length d h, length-pushMessage d)) in
-    ap₂ (λ (s t : Bool). cond (s && t) (oneAtLeast (changesIn 0 (drop (headerSize + tlvHeaderSize) m))) none) (pushMessage-isPush d) e
-    ∙ ap (λ (q : List ℕ). oneAtLeast (changesIn 0 q)) (pushMessage-data d)
+  pushMessage-unidirectional : isUnidirectional (pushMessage cs) ≡ true
+  unfolding isUnidirectional isResponse opcode pushMessage
+  pushMessage-unidirectional =
+      rw (le-leb headerLength (length (pushMessage cs)) (omega (arith, length-pushMessage)), header-id 0 unidirectionalFlags behind (lit< tt), flags-are, header-noRecords 0 unidirectionalFlags behind)
+
+  carried : drop headerLength (pushMessage cs) ≡ behind
+  unfolding pushMessage
+  carried = header-drop 0 unidirectionalFlags behind
+
+  pub pushIn-message : length (changesOctets cs) < 65536 → pushIn (pushMessage cs) ≡ oneAtLeast (changesIn 0 (changesOctets cs))
+  unfolding pushIn
+  pushIn-message h =
+      rw (pushMessage-unidirectional, carried) (ap changesOf (tlvs-octets (tlv ∷ []) (lit< tt, h, tt)))
+
+  pub length-pushOctets : length (pushOctets cs) ≡ 18 + bytes cs
+  unfolding pushOctets
+  length-pushOctets = omega (arith, length-framed (pushMessage cs), length-pushMessage)
+
+-- A response is no PUSH.
+pub response-not-push : (m : List ℕ) → isResponse m ≡ true → pushIn m ≡ none
+unfolding pushIn isUnidirectional
+response-not-push m h =
+    rw (never (isUnidirectional m) (λ e. let z : not (isResponse m) ≡ true = search (and-left, and-right) in let y : _≡_ {A = ℕ} 0 1 = cc in omega arith))
 
 -- ---- the PUSH of a list of changes
-
-pub pushOctets-framed : (cs : List Change) → pushOctets cs ≡ framed (pushMessage (changesOctets cs))
-unfolding pushOctets
-pushOctets-framed cs =
-    ap (λ (n : ℕ). octets 2 n ++ pushMessage (changesOctets cs)) (sym (length-pushMessage (changesOctets cs)))
-
-pub length-pushOctets : (cs : List Change) → length (pushOctets cs) ≡ 18 + changesSize cs
-length-pushOctets cs =
-    ap length (pushOctets-framed cs)
-    ∙ omega (arith, length-framed (pushMessage (changesOctets cs)), length-pushMessage (changesOctets cs), length-changesOctets cs)
 
 -- A list of changes whose PUSH has a length: with the 16 octets before them they take at most 65,535.
 pub record Sendable (cs : List Change) : Type 0 where
   pub plain : allOf plainChange cs ≡ true
-  pub short : 16 + changesSize cs ≤ 65535
+  pub short : 16 + bytes cs ≤ 65535
 
-short-message : (cs : List Change) → Sendable cs → length (pushMessage (changesOctets cs)) < 65536
-short-message cs s = omega (arith, s .short, length-pushMessage (changesOctets cs), length-changesOctets cs)
+short-message : (cs : List Change) → Sendable cs → length (pushMessage cs) < 65536
+short-message cs s = omega (arith, s .short, length-pushMessage cs)
 
 pub pushOf-nil : pushOf [] ≡ []
 unfolding pushOf
@@ -165,10 +159,14 @@ pub pushOf-cons : (c : Change) (cs : List Change) → pushOf (c ∷ cs) ≡ push
 unfolding pushOf
 pushOf-cons c cs = refl
 
+pushOf-framed : (c : Change) (cs : List Change) → pushOf (c ∷ cs) ≡ framed (pushMessage (c ∷ cs))
+unfolding pushOctets
+pushOf-framed c cs = pushOf-cons c cs
+
 -- The message of a PUSH is read as exactly the changes that were written.
-pub pushIn-changes : (c : Change) (cs : List Change) → Sendable (c ∷ cs) → pushIn (pushMessage (changesOctets (c ∷ cs))) ≡ some (c ∷ cs)
+pub pushIn-changes : (c : Change) (cs : List Change) → Sendable (c ∷ cs) → pushIn (pushMessage (c ∷ cs)) ≡ some (c ∷ cs)
 pushIn-changes c cs s =
-    pushIn-message (changesOctets (c ∷ cs)) (omega (arith, s .short, length-changesOctets (c ∷ cs)))
+    pushIn-message (c ∷ cs) (omega (arith, s .short, length-changesOctets (c ∷ cs)))
     ∙ ap oneAtLeast (changesIn-changes (c ∷ cs) (s .plain))
 
 -- What a client finds at the front of a list of octets: a frame, whose message is a PUSH of these changes, and then the rest.
@@ -180,8 +178,8 @@ pub record FrontPush (l : List ℕ) (cs : List Change) (rest : List ℕ) : Type 
 
 pub push-front : (c : Change) (cs : List Change) (rest : List ℕ) → Sendable (c ∷ cs) → FrontPush (pushOf (c ∷ cs) ++ rest) (c ∷ cs) rest
 push-front c cs rest s =
-    let m = pushMessage (changesOctets (c ∷ cs)) in
-    let e : pushOf (c ∷ cs) ++ rest ≡ framed m ++ rest = ap (λ (l : List ℕ). l ++ rest) (pushOf-cons c cs ∙ pushOctets-framed (c ∷ cs)) in
+    let m = pushMessage (c ∷ cs) in
+    let e : pushOf (c ∷ cs) ++ rest ≡ framed m ++ rest = ap (λ (l : List ℕ). l ++ rest) (pushOf-framed c cs) in
     record {
       message = m;
       frame = ap frameOf e ∙ frameOf-framed m rest (short-message (c ∷ cs) s);
@@ -191,8 +189,24 @@ push-front c cs rest s =
 
 -- The frames of a PUSH and what follows it.
 pub framesIn-push : (c : Change) (cs : List Change) (rest : List ℕ) → Sendable (c ∷ cs)
-    → framesIn 0 (pushOf (c ∷ cs) ++ rest) ≡ oneMore (pushMessage (changesOctets (c ∷ cs))) (framesIn 0 rest)
+    → framesIn 0 (pushOf (c ∷ cs) ++ rest) ≡ oneMore (pushMessage (c ∷ cs)) (framesIn 0 rest)
 framesIn-push c cs rest s =
-    let m = pushMessage (changesOctets (c ∷ cs)) in
-    ap (λ (l : List ℕ). framesIn 0 (l ++ rest)) (pushOf-cons c cs ∙ pushOctets-framed (c ∷ cs))
+    let m = pushMessage (c ∷ cs) in
+    ap (λ (l : List ℕ). framesIn 0 (l ++ rest)) (pushOf-framed c cs)
     ∙ framesIn-framed m rest (short-message (c ∷ cs) s)
+
+-- The messages of what is sent for a list of changes: one PUSH, or none for an empty list.
+abbrev pub pushMessages : List Change → List (List ℕ)
+pushMessages [] = []
+pushMessages (c ∷ cs) = pushMessage (c ∷ cs) ∷ []
+
+pub framesIn-pushOf : (cs : List Change) → Sendable cs → framesIn 0 (pushOf cs) ≡ some (pushMessages cs)
+framesIn-pushOf [] s = ap (framesIn 0) pushOf-nil ∙ framesIn-nil
+framesIn-pushOf (c ∷ cs) s =
+    ap (framesIn 0) (sym (append-nil (pushOf (c ∷ cs)))) ∙ framesIn-push c cs [] s
+    ∙ ap (oneMore (pushMessage (c ∷ cs))) framesIn-nil
+
+-- A reply before them.
+pub framesIn-reply : (m : List ℕ) (cs : List Change) → length m < 65536 → Sendable cs
+    → framesIn 0 (framed m ++ pushOf cs) ≡ some (m ∷ pushMessages cs)
+framesIn-reply m cs h s = framesIn-framed m (pushOf cs) h ∙ ap (oneMore m) (framesIn-pushOf cs s)

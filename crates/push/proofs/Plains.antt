@@ -1,56 +1,30 @@
 -- The changes between views of sound stores: all of them plain, none over 393 octets.
-use Prim.Native.Nat.{ℕ, zero, suc, _+_, _*_, _≤_, _<_}
-use mathlib.Core.Path.{_≡_, refl, sym, ap, ap₂, _∙_}
+use Prim.Native.Nat.{ℕ, _+_, _*_, _≤_, _<_}
+use mathlib.Core.Path.{_≡_, refl, ap, _∙_}
 use mathlib.Core.Bool.{Bool, true, false, cond, not, _&&_}
-use mathlib.Core.List.{List, [], _∷_, _++_, map}
+use mathlib.Core.List.{List, [], _∷_}
 use native.Mathlib.Omega.{arith}
-use lib.ListN.{length, length-append, length-map}
-use lib.Dec.{leb, ltb, eqb, lit<, lit≤}
+use lib.ListN.{length, length-map}
+use lib.Dec.{leb, lit<, lit≤}
 use borrow.Author.Tests.{leb-true, le-leb}
-use Rattle.wire.specs.Name.{isName}
-use Rattle.zone.specs.Lists.{keep, anyOf, allOf, onlyIf}
+use Rattle.zone.specs.Lists.{allOf}
 use Rattle.zone.specs.Record.{Record, keyOf}
 use Rattle.zone.specs.Store.{find, held}
-use Rattle.zone.specs.Match.{Subscription, any, wanted, view}
+use Rattle.dso.specs.Judge.{any}
+use Rattle.zone.specs.Match.{Subscription, wanted, view}
 use Rattle.zone.specs.Layout.{size}
-use Rattle.zone.specs.Batch.{maxTtl, removeTtl, maxRdata, maxRecords, isPlain}
-use Rattle.zone.specs.Fits.{fits, maxSize}
+use Rattle.zone.specs.Batch.{maxRdata, maxRecords}
+use Rattle.zone.specs.Fits.{maxSize}
 use Rattle.zone.specs.Sound.{good, Sound}
-use Rattle.zone.proofs.Lists.{and-left, and-right, and-both, allOf-append, allOf-map, allOf-keep, allOf-onlyIf, allOf-of-map, length-keep}
+use Rattle.zone.proofs.Lists.{and-left, and-right, and-both, allOf-append, allOf-map, allOf-keep, allOf-of-map, length-keep}
 use Rattle.zone.proofs.Layouts.{Fitting, fitting, fits-of}
-use Rattle.zone.proofs.Goods.{Good, good-parts, Allowed, allowed-parts, size-max}
-use Rattle.push.specs.Change.{
-  Removal,
-  single,
-  rrset,
-  allTypes,
-  allClasses,
-  Change,
-  addition,
-  removal,
-  covers,
-  isTrue,
-  collectiveTtl,
-  fieldsOf,
-}
-use Rattle.push.specs.List.{
-  singleAt,
-  rrsetAt,
-  allTypesAt,
-  allClassesAt,
-  widest,
-  alike,
-  chosen,
-  firsts,
-  leaving,
-  hasTtl,
-  entering,
-  removals,
-  additions,
-  changes,
-}
-use Rattle.push.specs.Octets.{changesOctets, pushOctets, pushOf}
-use Rattle.push.specs.Plain.{notAny, plainValues, plainChange, changeSize, changesSize, maxPush}
+use Rattle.zone.proofs.Goods.{good-parts, Allowed, allowed-parts, plain-not-any, size-max}
+use Rattle.push.specs.Change.{Removal, Change, addition, removal, isTrue, collectiveTtl, fieldsOf}
+use Rattle.push.specs.List.{singleAt, rrsetAt, allTypesAt, allClassesAt, widest, alike, chosen, firsts, leaving, hasTtl, entering, removals, additions, changes}
+use Rattle.push.specs.Octets.{pushOctets, pushOf}
+use Rattle.push.specs.Plain.{notAny, plainValues, plainChange, maxPush}
+use Rattle.push.specs.Measure.{bytes}
+use Rattle.push.proofs.Firsts.{allOf-firsts}
 use Rattle.push.proofs.Framing.{Sendable, length-pushOctets, pushOf-nil, pushOf-cons}
 
 -- ---- what holds of every change at a record
@@ -76,13 +50,6 @@ chosen-cases P store gone r a b c d =
     pick true false false = d
     pick false t u = a
 
-firsts-all : (p : Record → Bool) (choose : Record → Removal) (earlier l : List Record) → allOf p l ≡ true → allOf p (firsts choose earlier l) ≡ true
-unfolding firsts
-firsts-all p choose earlier [] h = h
-firsts-all p choose earlier (r ∷ l) h =
-    allOf-onlyIf p (not (anyOf (λ (e : Record). covers (choose e) (keyOf r)) earlier)) r (firsts choose (earlier ++ (r ∷ [])) l) (λ e. and-left (p r) (allOf p l) h)
-    (firsts-all p choose (earlier ++ (r ∷ [])) l (and-right (p r) (allOf p l) h))
-
 module _ (p : Record → Bool) (q : Change → Bool) (each : AtEach p q) where
   pub removals-all : (store gone : List Record) → allOf p gone ≡ true → allOf q (removals store gone) ≡ true
   unfolding removals
@@ -90,8 +57,9 @@ module _ (p : Record → Bool) (q : Change → Bool) (each : AtEach p q) where
       let f : Record → Change = λ r. removal (chosen store gone r) in
       let l = firsts (chosen store gone) [] gone in
       allOf-of-map f q l
-      ∙ allOf-map p (λ r. q (f r)) l (λ r e. chosen-cases (λ m. q (removal m) ≡ true) store gone r (each .one r e) (each .set r e) (each .types r e) (each .classes r e))
-      (firsts-all p (chosen store gone) [] gone h)
+      ∙ allOf-map p (λ r. q (f r)) l (λ r e. chosen-cases (λ m. q (removal m) ≡ true) store gone r
+      (each .one r e) (each .set r e) (each .types r e) (each .classes r e))
+      (allOf-firsts (chosen store gone) p [] gone h)
 
   pub additions-all : (l : List Record) → allOf p l ≡ true → allOf q (additions l) ≡ true
   unfolding additions
@@ -107,15 +75,12 @@ module _ (p : Record → Bool) (q : Change → Bool) (each : AtEach p q) where
 -- ---- plain changes of at most 393 octets
 
 abbrev pub plainShort : Change → Bool
-plainShort c = plainChange c && leb (changeSize c) maxSize
+plainShort c = plainChange c && leb (size (fieldsOf c)) maxSize
 
 plain-short : (c : Change) → Fitting (fieldsOf c) → plainValues c ≡ true → length (fieldsOf c .rdata) ≤ maxRdata → plainShort c ≡ true
 unfolding plainChange
 plain-short c f v d =
-    and-both (and-both (fits-of (fieldsOf c) f) v) (le-leb (changeSize c) maxSize (size-max (fieldsOf c) (f .name) d))
-
-plain-not-any : (x : ℕ) → isPlain x ≡ true → notAny x ≡ true
-plain-not-any x p = and-right (not (eqb x 0)) (notAny x) p
+    and-both (and-both (fits-of (fieldsOf c) f) v) (le-leb (size (fieldsOf c)) maxSize (size-max (fieldsOf c) (f .name) d))
 
 module _ (zone : List ℕ) (r : Record) (h : good zone r ≡ true) where
   whole : Fitting r
@@ -189,18 +154,19 @@ plain-at zone = record {
 -- ---- how long
 
 -- So many octets at most take changes that are not over the limit.
-pub changesSize-le : (cs : List Change) → allOf plainShort cs ≡ true → changesSize cs ≤ maxSize * length cs
-unfolding changesSize
-changesSize-le [] h = lit≤ tt
-changesSize-le (c ∷ cs) h =
-    let k : changeSize c ≤ maxSize = leb-true (changeSize c) maxSize (and-right (plainChange c) (leb (changeSize c) maxSize) (and-left (plainShort c) (allOf plainShort cs) h)) in
-    omega (arith, k, changesSize-le cs (and-right (plainShort c) (allOf plainShort cs) h))
+pub bytes-le : (cs : List Change) → allOf plainShort cs ≡ true → bytes cs ≤ maxSize * length cs
+bytes-le [] h = lit≤ tt
+bytes-le (c ∷ cs) h =
+    let k : size (fieldsOf c) ≤ maxSize =
+    leb-true (size (fieldsOf c)) maxSize
+    (and-right (plainChange c) (leb (size (fieldsOf c)) maxSize) (and-left (plainShort c) (allOf plainShort cs) h)) in
+    omega (arith, k, bytes-le cs (and-right (plainShort c) (allOf plainShort cs) h))
 
 pub all-plain : (cs : List Change) → allOf plainShort cs ≡ true → allOf plainChange cs ≡ true
-all-plain cs h = allOf-map plainShort plainChange cs (λ c e. and-left (plainChange c) (leb (changeSize c) maxSize) e) h
+all-plain cs h = allOf-map plainShort plainChange cs (λ c e. and-left (plainChange c) (leb (size (fieldsOf c)) maxSize) e) h
 
 pub length-pushOctets-le : (cs : List Change) → allOf plainShort cs ≡ true → length (pushOctets cs) ≤ 18 + maxSize * length cs
-length-pushOctets-le cs h = omega (arith, length-pushOctets cs, changesSize-le cs h)
+length-pushOctets-le cs h = omega (arith, length-pushOctets cs, bytes-le cs h)
 
 -- 01: "The largest PUSH is 12 + 4 + 40 x 393 = 15,736 bytes", with its length prefix before it.
 module _ (cs : List Change) (h : allOf plainShort cs ≡ true) (few : length cs ≤ maxRecords) where
@@ -212,7 +178,7 @@ module _ (cs : List Change) (h : allOf plainShort cs ≡ true) (few : length cs 
       go (c ∷ cs) h few = omega (arith, ap length (pushOf-cons c cs), length-pushOctets-le (c ∷ cs) h)
 
   pub sendable : Sendable cs
-  sendable = record { plain = all-plain cs h; short = omega (arith, changesSize-le cs h) }
+  sendable = record { plain = all-plain cs h; short = omega (arith, bytes-le cs h) }
 
 -- ---- sound stores
 

@@ -1,37 +1,29 @@
 -- Reading back what was written: one change, a list of them.
-use Prim.Native.Nat.{ℕ, zero, suc, pred, _+_, _-_, _≤_, _<_}
-use mathlib.Core.Path.{_≡_, refl, sym, ap, ap₂, _∙_, subst}
-use mathlib.Core.Bool.{Bool, true, false, cond, not, _&&_, _||_}
-use mathlib.Core.List.{List, [], _∷_, _++_, append-nil}
+use Prim.Native.Nat.{ℕ, zero, suc, pred, _+_, _≤_}
+use mathlib.Core.Path.{_≡_, refl, sym, ap, ap₂, _∙_}
+use mathlib.Core.Bool.{true, false, _&&_}
+use mathlib.Core.List.{List, [], _∷_, _++_}
 use mathlib.Core.Option.{Option, none, some}
-use native.Mathlib.Nat.{suc-inj, le-of-suc-le-suc, not-suc-le-zero}
+use native.Mathlib.Nat.{le-of-suc-le-suc, not-suc-le-zero}
 use native.Mathlib.Omega.{arith}
-use lib.ListN.{length, take, drop, length-append}
+use lib.ListN.{length, drop, length-append}
 use lib.Seq.{drop-append-seam}
 use lib.Dec.{leb, eqb}
+use lib.Pow.{areBytes}
 use borrow.Author.Tests.{not-true}
+use Rattle.wire.proofs.Fields.{areBytes-append}
 use Rattle.zone.specs.Lists.{allOf}
 use Rattle.zone.specs.Record.{Record}
-use Rattle.zone.specs.Match.{any}
+use Rattle.dso.specs.Judge.{any}
 use Rattle.zone.specs.Layout.{size, recordOctets, readRecord}
-use Rattle.zone.specs.Batch.{maxTtl, removeTtl}
+use Rattle.zone.specs.Batch.{maxTtl}
 use Rattle.zone.specs.Fits.{fits}
 use Rattle.zone.proofs.Lists.{and-left, and-right}
-use Rattle.zone.proofs.Layouts.{readRecord-octets, length-recordOctets, size-le, size-pos}
-use Rattle.push.specs.Change.{
-  Removal,
-  single,
-  rrset,
-  allTypes,
-  allClasses,
-  Change,
-  addition,
-  removal,
-  fieldsOf,
-  collectiveTtl,
-}
-use Rattle.push.specs.Octets.{changesOctets, Notified, change, ignored, fatal, collective, unlessAny, notified, joined, changesIn}
-use Rattle.push.specs.Plain.{notAny, plainValues, plainChange, changeSize, changesSize}
+use Rattle.zone.proofs.Layouts.{readRecord-octets, length-recordOctets, recordOctets-areBytes, size-le, size-pos, fitting}
+use Rattle.push.specs.Change.{single, rrset, allTypes, allClasses, Change, addition, removal, fieldsOf}
+use Rattle.push.specs.Octets.{changesOctets, change, unlessAny, notified, joined, changesIn}
+use Rattle.push.specs.Plain.{notAny, plainValues, plainChange}
+use Rattle.push.specs.Measure.{bytes}
 
 -- ---- one change
 
@@ -104,9 +96,19 @@ changesIn-changes (c ∷ cs) h =
     ∙ ap₂ joined (notified-fields c (and-right (fits (fieldsOf c)) (plainValues c) p))
     (changesIn-changes cs (and-right (plainChange c) (allOf plainChange cs) h))
 
-pub length-changesOctets : (cs : List Change) → length (changesOctets cs) ≡ changesSize cs
-unfolding changesOctets changesSize
+pub length-changesOctets : (cs : List Change) → length (changesOctets cs) ≡ bytes cs
+unfolding changesOctets
 length-changesOctets [] = refl
 length-changesOctets (c ∷ cs) =
     length-append (recordOctets (fieldsOf c)) (changesOctets cs)
     ∙ ap₂ _+_ (length-recordOctets (fieldsOf c)) (length-changesOctets cs)
+
+pub changesOctets-areBytes : (cs : List Change) → allOf plainChange cs ≡ true → areBytes (changesOctets cs) ≡ true
+unfolding changesOctets plainChange
+changesOctets-areBytes [] h = refl
+changesOctets-areBytes (c ∷ cs) h =
+    let p : plainChange c ≡ true = and-left (plainChange c) (allOf plainChange cs) h in
+    let f = fitting (fieldsOf c) (and-left (fits (fieldsOf c)) (plainValues c) p) in
+    areBytes-append (recordOctets (fieldsOf c)) (changesOctets cs)
+    (recordOctets-areBytes (fieldsOf c) (f .ownerOctets) (f .rdataOctets))
+    (changesOctets-areBytes cs (and-right (plainChange c) (allOf plainChange cs) h))

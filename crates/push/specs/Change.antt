@@ -7,7 +7,7 @@ use Rattle.wire.specs.Name.{lowered, sameOctets}
 use Rattle.zone.specs.Lists.{keep, anyOf}
 use Rattle.zone.specs.Record.{Record, Key, keyOf, sameKey}
 use Rattle.zone.specs.Store.{put}
-use Rattle.zone.specs.Match.{any}
+use Rattle.dso.specs.Judge.{any}
 use Rattle.zone.specs.Batch.{removeTtl}
 
 -- The four removals of RFC 8765, 6.3.1: one record; one RRset; all types in a class; all classes.

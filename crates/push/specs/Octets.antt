@@ -1,13 +1,14 @@
 -- PUSH messages in octets, and reading them (RFC 8765, 6.3.1).
-use Prim.Native.Nat.{ℕ, zero, suc, _+_, pred}
+use Prim.Native.Nat.{ℕ, zero, suc, pred}
 use mathlib.Core.Bool.{Bool, cond, not, _||_}
 use mathlib.Core.List.{List, [], _∷_, _++_}
 use mathlib.Core.Option.{Option, none, some}
 use lib.ListN.{length}
 use lib.Dec.{leb, eqb}
-use Rattle.wire.specs.Field.{octets}
+use Rattle.dso.specs.Judge.{pushType}
+use Rattle.dso.specs.Response.{header, tlvsOctets, framed}
 use Rattle.zone.specs.Record.{Record}
-use Rattle.zone.specs.Match.{any}
+use Rattle.dso.specs.Judge.{any}
 use Rattle.zone.specs.Layout.{recordOctets, readRecord, size}
 use Rattle.zone.specs.Batch.{maxTtl, removeTtl}
 use Rattle.push.specs.Change.{
@@ -27,18 +28,17 @@ unfoldable pub changesOctets : List Change → List ℕ
 changesOctets [] = []
 changesOctets (c ∷ cs) = recordOctets (fieldsOf c) ++ changesOctets cs
 
--- The header of a unidirectional DSO message (RFC 8490, 5.4): ID 0, QR 0, opcode 6, Z and RCODE 0, four counts of 0.
-abbrev pub unidirectional : List ℕ
-unidirectional = 0 ∷ 0 ∷ 0x30 ∷ 0 ∷ 0 ∷ 0 ∷ 0 ∷ 0 ∷ 0 ∷ 0 ∷ 0 ∷ 0 ∷ []
+-- The flags of a unidirectional DSO message (RFC 8490, 5.4.1): QR 0, opcode 6, Z and RCODE 0. Its ID is 0.
+abbrev pub unidirectionalFlags : ℕ
+unidirectionalFlags = 0x3000
 
-abbrev pub pushType : ℕ
-pushType = 0x41
+-- A PUSH message: the header, and the one TLV with the changes.
+unfoldable pub pushMessage : List Change → List ℕ
+pushMessage cs = header 0 unidirectionalFlags ++ tlvsOctets (record { kind = pushType; value = changesOctets cs } ∷ [])
 
--- One PUSH message behind its length prefix: the header, and the one TLV with the changes.
+-- Behind its length prefix.
 unfoldable pub pushOctets : List Change → List ℕ
-pushOctets cs =
-    octets 2 (16 + length (changesOctets cs))
-    ++ (unidirectional ++ (octets 2 pushType ++ (octets 2 (length (changesOctets cs)) ++ changesOctets cs)))
+pushOctets cs = framed (pushMessage cs)
 
 -- "An empty list sends no PUSH."
 unfoldable pub pushOf : List Change → List ℕ

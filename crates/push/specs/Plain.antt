@@ -1,24 +1,11 @@
--- Changes that octets can say, and how many octets they take.
+-- Changes that octets can say, and the most octets of a PUSH.
 use Prim.Native.Nat.{ℕ, _+_, _*_}
 use mathlib.Core.Bool.{Bool, true, not, _&&_}
-use mathlib.Core.List.{List, [], _∷_}
 use lib.Dec.{leb, eqb}
-use Rattle.zone.specs.Record.{Record}
-use Rattle.zone.specs.Match.{any}
-use Rattle.zone.specs.Layout.{size}
+use Rattle.dso.specs.Judge.{any}
 use Rattle.zone.specs.Batch.{maxTtl, maxRecords}
 use Rattle.zone.specs.Fits.{fits, maxSize}
-use Rattle.push.specs.Change.{
-  Removal,
-  single,
-  rrset,
-  allTypes,
-  allClasses,
-  Change,
-  addition,
-  removal,
-  fieldsOf,
-}
+use Rattle.push.specs.Change.{single, rrset, allTypes, allClasses, Change, addition, removal, fieldsOf}
 
 abbrev pub notAny : ℕ → Bool
 notAny x = not (eqb x any)
@@ -35,14 +22,6 @@ plainValues (removal (allClasses owner)) = true
 -- A change that is read back as it was meant: its fields fit, and its values are of its kind.
 unfoldable pub plainChange : Change → Bool
 plainChange c = fits (fieldsOf c) && plainValues c
-
--- 01: "A notice's bytes are its name's + 10 + its RDATA's."
-abbrev pub changeSize : Change → ℕ
-changeSize c = size (fieldsOf c)
-
-unfoldable pub changesSize : List Change → ℕ
-changesSize [] = 0
-changesSize (c ∷ cs) = changeSize c + changesSize cs
 
 -- The most octets of a PUSH message, without its length prefix (01, "What the dock can hold": 15,736).
 abbrev pub maxPush : ℕ

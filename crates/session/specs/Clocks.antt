@@ -1,7 +1,7 @@
 -- The two clocks of a session (01, "Two clocks a session"; RFC 8490, 6.4 and 6.5). Times are milliseconds. Only received
 -- messages restart a clock, and only ticks look at one.
 use Prim.Native.Nat.{ℕ, _*_, _-_, max}
-use mathlib.Core.Bool.{Bool, true, false, cond, not, _&&_, _||_}
+use mathlib.Core.Bool.{Bool, cond, not, _&&_, _||_}
 use lib.Dec.{leb}
 use Rattle.session.specs.declared.clocks.Clocks.{Clocks}
 

@@ -4,7 +4,7 @@ use Prim.Native.Nat.{ℕ, zero, suc, _+_, _*_, _/_, _%_, _^_, _≤_, _<_}
 use mathlib.Core.Path.{_≡_, refl, sym, ap, ap₂, _∙_}
 use mathlib.Core.Bool.{Bool, true, false, _&&_}
 use mathlib.Core.List.{List, [], _∷_, _++_}
-use native.Mathlib.Nat.{mod-one, pow-suc, pow-succ', one-le-pow, mod-eq-of-lt, mul-add-div-right, mul-add-mod-self-right, mod-lt, mul-assoc, div-add-mod', div-one, div-lt-iff-lt-mul, div-div-eq-div-mul, suc-add, zero-add, add-comm, zero-mul, le-of-suc-le-suc, not-suc-le-zero}
+use native.Mathlib.Nat.{mod-one, pow-succ', one-le-pow, mod-eq-of-lt, mul-add-div-right, mul-add-mod-self-right, mod-lt, mul-assoc, div-add-mod', div-one, div-lt-iff-lt-mul, div-div-eq-div-mul, suc-add, zero-add, add-comm, le-of-suc-le-suc, not-suc-le-zero}
 use native.Mathlib.Omega.{arith}
 use lib.ListN.{length, take, drop, getD, drop-of-length-le}
 use lib.Arith.{mod-mul, digits-lt, digits-div}

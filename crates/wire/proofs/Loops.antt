@@ -1,17 +1,16 @@
 -- How the loops over names go: what a turn and an end say of the whole, from what is left to be looked at.
-use Prim.Native.Nat.{ℕ, zero, suc, _+_, _-_, _≤_, _<_}
-use mathlib.Core.Path.{_≡_, refl, sym, ap, ap₂, _∙_, subst}
+use Prim.Native.Nat.{ℕ, suc, _+_, _-_, _≤_, _<_}
+use mathlib.Core.Path.{_≡_, refl, sym, ap, ap₂, _∙_}
 use mathlib.Core.Bool.{Bool, true, false, cond, _&&_, _||_}
-use mathlib.Core.List.{List, [], _∷_, _++_, map}
+use mathlib.Core.List.{List, _∷_}
 use mathlib.Core.Option.{Option, none, some}
-use native.Mathlib.Nat.{suc-add, zero-add, add-zero, add-suc, add-assoc}
 use native.Mathlib.Numerals.{add-one}
 use native.Mathlib.Omega.{arith}
-use lib.ListN.{length, take, drop, getD, length-take, length-drop, drop-of-length-le}
-use lib.Seq.{drop-cons, drop-drop, take-all, getD-take}
-use lib.Dec.{leb, eqb}
+use lib.ListN.{length, take, drop, getD, length-take, drop-of-length-le}
+use lib.Seq.{drop-cons, drop-drop, getD-take}
+use lib.Dec.{eqb}
 use borrow.Author.Tests.{le-leb, lt-leb, eq-eqb, ne-eqb}
-use Rattle.wire.specs.Name.{maxLabel, maxName, after, labels, nameLength, lower, lowered, sameOctets, sameName, endsIn, within}
+use Rattle.wire.specs.Name.{maxLabel, maxName, after, labels, nameLength, lower, sameOctets, sameName, endsIn, within}
 use Rattle.wire.specs.Reading.{reading, nameFront, nameAt}
 use Rattle.wire.specs.declared.name.NameReading.{NameReading}
 use Rattle.wire.specs.declared.name.NameReading.the-variants.{Name, NoName}

@@ -1,15 +1,15 @@
 -- Laws of names: reading one, the case of letters, two being the same name, one being at or below another.
-use Prim.Native.Nat.{ℕ, zero, suc, _+_, _-_, _≤_, _<_, suc-le-suc}
+use Prim.Native.Nat.{ℕ, zero, suc, _+_, _-_, _≤_, _<_}
 use mathlib.Core.Path.{_≡_, refl, sym, ap, ap₂, _∙_, subst}
 use mathlib.Core.Bool.{Bool, true, false, cond, _&&_, _||_}
-use mathlib.Core.List.{List, [], _∷_, _++_, map, append-nil, head-eq-of-cons-eq, tail-eq-of-cons-eq}
+use mathlib.Core.List.{List, [], _∷_, _++_, append-nil, head-eq-of-cons-eq, tail-eq-of-cons-eq}
 use mathlib.Core.Option.{Option, none, some}
-use native.Mathlib.Nat.{suc-add, zero-add, add-zero, add-assoc, le-of-suc-le-suc, not-suc-le-zero, suc-inj}
-use native.Mathlib.Numerals.{add-one, one-add}
+use native.Mathlib.Nat.{zero-add, add-assoc, suc-inj}
+use native.Mathlib.Numerals.{one-add}
 use native.Mathlib.Omega.{arith}
-use lib.ListN.{length, take, drop, getD, length-take, length-drop, length-map, length-append, take-append-drop, drop-of-length-le}
-use lib.Seq.{drop-cons, drop-drop, take-take, take-length, take-all, take-append-add, drop-append-seam, length-take-le, getD-take}
-use lib.Dec.{leb, ltb, eqb}
+use lib.ListN.{length, take, drop, length-take, length-drop, length-map}
+use lib.Seq.{take-take, take-length, take-all, take-append-add, drop-append-seam, length-take-le}
+use lib.Dec.{leb, eqb}
 use borrow.Author.Tests.{leb-true, leb-false, eqb-true, eqb-false, le-leb, lt-leb, eq-eqb, ne-eqb}
 use Rattle.wire.specs.Name.{maxLabel, maxName, after, labels, nameLength, holds, isName, lower, lowered, sameOctets, sameName, endsIn, within}
 use Rattle.wire.specs.Reading.{reading, nameFront, nameAt}
@@ -161,6 +161,11 @@ pub nameAt-none : (r : NameReading) (s : List ℕ) (at : ℕ) → r ≡ nameAt s
 unfolding nameAt nameFront
 nameAt-none r s at h e = reading-none (nameLength (drop at s)) (sym h ∙ e)
 
+-- What was read lies within the list, and is a name by itself.
+pub nameAt-fits : (s : List ℕ) (at n : ℕ) → nameLength (drop at s) ≡ some n → at + n ≤ length s
+nameAt-fits s at n h =
+    omega (arith, nameLength-pos (drop at s) n h, nameLength-le (drop at s) n h, length-drop at s)
+
 pub nameAt-some : (s : List ℕ) (at n : ℕ) → nameLength (drop at s) ≡ some n → nameAt s at ≡ Name n
 unfolding nameAt nameFront
 nameAt-some s at n h = ap reading h
@@ -304,6 +309,9 @@ sameName-trans a b c h k = sameName-of a c (sameName-true a b h ∙ sameName-tru
 pub sameName-length : (a b : List ℕ) → sameName a b ≡ true → length a ≡ length b
 sameName-length a b h = length-case a b (sameName-true a b h)
 
+pub sameName-lowered : (a : List ℕ) → sameName a (lowered a) ≡ true
+sameName-lowered a = sameName-of a (lowered a) (sym (lowered-lowered a))
+
 pub sameName-isName : (a b : List ℕ) → sameName a b ≡ true → isName a ≡ isName b
 sameName-isName a b h = isName-case a b (sameName-true a b h)
 
@@ -363,6 +371,9 @@ within-name z a b h k =
     let m : length a ≤ maxName = isName-max a h in
     let r : Reads 0 (take maxName a) (length a) = nameLength-reads a (length a) (isName-length a h) in
     endsIn-reads z (subst (λ (l : List ℕ). Reads 0 l (length a)) (take-all maxName a m) r) refl b (sameName-true a b k)
+
+pub within-lowered : (z a : List ℕ) → isName a ≡ true → within z (lowered a) ≡ within z a
+within-lowered z a h = sym (within-name z a (lowered a) h (sameName-lowered a))
 
 pub within-self : (z : List ℕ) → isName z ≡ true → within z z ≡ true
 unfolding within endsIn

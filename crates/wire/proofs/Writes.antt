@@ -2,15 +2,17 @@
 -- written; a part that was lent and has come back.
 use Prim.Native.Nat.{ℕ, zero, suc, _+_, _-_, _/_, _%_, _^_, _≤_, _<_}
 use mathlib.Core.Path.{_≡_, refl, sym, ap, ap₂, _∙_}
+use mathlib.Core.Bool.{true}
 use mathlib.Core.List.{List, [], _∷_, _++_, append-nil}
-use native.Mathlib.Nat.{suc-add, add-suc, zero-add, add-zero, le-of-suc-le-suc, not-suc-le-zero, suc-inj}
+use native.Mathlib.Nat.{suc-add, add-suc, zero-add, add-zero, suc-inj}
 use native.Mathlib.Numerals.{add-one}
 use native.Mathlib.Omega.{arith}
-use lib.ListN.{length, take, drop, getD, set, length-set, length-take, length-drop, take-append-drop, drop-of-length-le}
-use lib.Seq.{sets, length-sets, set-out, take-suc, take-length, take-all, drop-set-lt, take-set-le, length-take-le, take-append-seam}
-use Rattle.wire.specs.Field.{octets}
+use lib.Pow.{areBytes}
+use lib.ListN.{length, take, drop, getD, set, length-take, length-drop, take-append-drop, drop-of-length-le}
+use lib.Seq.{sets, length-sets, set-comm, set-out, take-suc, take-all, drop-set-lt, length-take-le, take-append-seam}
+use Rattle.wire.specs.Field.{field, octets}
 use Rattle.wire.specs.Part.{part}
-use Rattle.wire.proofs.Fields.{length-octets, octets-mod, octets-split}
+use Rattle.wire.proofs.Fields.{areBytes-append, areBytes-drop, areBytes-take, length-octets, octets-mod, octets-split, field-octets, field-take-le}
 
 -- ---- writes in a row, past the end, one place further
 
@@ -30,6 +32,29 @@ sets-nil i vs = sets-out [] i vs (omega arith)
 pub sets-cons : (x : ℕ) (l : List ℕ) (i : ℕ) (vs : List ℕ) → sets (x ∷ l) (suc i) vs ≡ x ∷ sets l i vs
 sets-cons x l i [] = refl
 sets-cons x l i (v ∷ vs) = sets-cons x (set l i v) (suc i) vs
+
+-- Writes that lie apart may be made in any order; so what belongs in front may be written last.
+set-sets : (o : List ℕ) (i x j : ℕ) (b : List ℕ) → i < j → set (sets o j b) i x ≡ sets (set o i x) j b
+set-sets o i x j [] h = refl
+set-sets o i x j (y ∷ b) h = set-sets (set o j y) i x (suc j) b (omega arith)
+    ∙ ap (λ (l : List ℕ). sets l (suc j) b) (set-comm o j i y x (λ e. omega arith))
+
+pub sets-comm : (o : List ℕ) (i : ℕ) (a : List ℕ) (j : ℕ) (b : List ℕ) → i + length a ≤ j → sets (sets o i a) j b ≡ sets (sets o j b) i a
+sets-comm o i [] j b h = refl
+sets-comm o i (x ∷ a) j b h = sets-comm (set o i x) (suc i) a j b (omega arith)
+    ∙ ap (λ (l : List ℕ). sets l (suc i) a) (sym (set-sets o i x j b (omega arith)))
+
+pub sets-front-last : (o : List ℕ) (i : ℕ) (a b : List ℕ) → sets (sets o (i + length a) b) i a ≡ sets o i (a ++ b)
+sets-front-last o i a b = sym (sets-append o i a b ∙ sets-comm o i a (i + length a) b (omega arith))
+
+pub areBytes-sets : (o : List ℕ) (i : ℕ) (vs : List ℕ) → areBytes o ≡ true → areBytes vs ≡ true → areBytes (sets o i vs) ≡ true
+areBytes-sets [] i vs p q = ap areBytes (sets-nil i vs)
+areBytes-sets (x ∷ o) (suc i) vs p q =
+    ap areBytes (sets-cons x o i vs) ∙ areBytes-append (x ∷ []) (sets o i vs) (areBytes-take 1 (x ∷ o) p) (areBytes-sets o i vs (areBytes-drop 1 (x ∷ o) p) q)
+areBytes-sets (x ∷ o) zero [] p q = p
+areBytes-sets (x ∷ o) zero (v ∷ vs) p q =
+    ap areBytes (sets-cons v o 0 vs)
+    ∙ areBytes-append (v ∷ []) (sets o 0 vs) (areBytes-take 1 (v ∷ vs) q) (areBytes-sets o 0 vs (areBytes-drop 1 (x ∷ o) p) (areBytes-drop 1 (v ∷ vs) q))
 
 -- ---- a part of what was written to
 
@@ -87,6 +112,22 @@ part-written o i vs h =
     ap (λ (k : ℕ). part (sets o k vs) i (length vs)) (sym (add-zero i))
     ∙ ap (λ (k : List ℕ). take (length vs) k) (drop-sets-add i o 0 vs)
     ∙ take-written (drop i o) vs (omega (arith, length-drop i o))
+
+-- A field that was written is read back; one before or after what was written is as it was.
+pub field-written : (n x : ℕ) (o : List ℕ) (i : ℕ) → i + n ≤ length o → x < 256 ^ n → field n (drop i (sets o i (octets n x))) ≡ x
+field-written n x o i h k =
+    let e : length (octets n x) ≡ n = length-octets n x in
+    sym (field-take-le n n (drop i (sets o i (octets n x))) (omega arith))
+    ∙ ap (λ (m : ℕ). field n (part (sets o i (octets n x)) i m)) (sym e)
+    ∙ ap (field n) (part-written o i (octets n x) (omega arith) ∙ sym (append-nil (octets n x))) ∙ field-octets n x [] k
+
+pub field-before : (n : ℕ) (o : List ℕ) (i : ℕ) (vs : List ℕ) (a : ℕ) → a + n ≤ i → field n (drop a (sets o i vs)) ≡ field n (drop a o)
+field-before n o i vs a h =
+    sym (field-take-le n n (drop a (sets o i vs)) (omega arith)) ∙ ap (field n) (part-before o i vs a n h)
+    ∙ field-take-le n n (drop a o) (omega arith)
+
+pub field-after : (n : ℕ) (o : List ℕ) (i : ℕ) (vs : List ℕ) (a : ℕ) → i + length vs ≤ a → field n (drop a (sets o i vs)) ≡ field n (drop a o)
+field-after n o i vs a h = ap (field n) (drop-sets-after a o i vs h)
 
 -- ---- a part lent on and come back
 

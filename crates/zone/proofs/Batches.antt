@@ -1,5 +1,5 @@
 -- Laws of batches: stepping one, what its edits are, and that a sound store stays sound.
-use Prim.Native.Nat.{ℕ, zero, suc, _+_, _≤_, _<_}
+use Prim.Native.Nat.{ℕ, zero, suc, _≤_, _<_}
 use mathlib.Core.Path.{_≡_, refl, sym, ap, ap₂, _∙_, subst}
 use mathlib.Core.Bool.{Bool, true, false, cond, not, _&&_, _||_}
 use mathlib.Core.List.{List, [], _∷_, _++_, map}
@@ -10,34 +10,19 @@ use lib.Dec.{leb, eqb}
 use lib.Pow.{areBytes}
 use borrow.Author.Tests.{leb-true, leb-false, le-leb}
 use Rattle.wire.proofs.Fields.{areBytes-drop}
-use Rattle.zone.specs.Lists.{keep, allOf}
+use Rattle.zone.specs.Lists.{allOf}
 use Rattle.zone.specs.Record.{Record, Key, keyOf, sameKey}
 use Rattle.zone.specs.Store.{held, withTtl, setIf, put, remove}
 use Rattle.zone.specs.Layout.{size, readRecord}
-use Rattle.zone.specs.Batch.{
-  maxRecords,
-  maxEdits,
-  maxTtl,
-  removeTtl,
-  isPut,
-  isPlain,
-  allowed,
-  overfull,
-  edit,
-  Edited,
-  stored,
-  faulty,
-  edited,
-  batchOf,
-}
+use Rattle.zone.specs.Batch.{maxRecords, maxEdits, maxTtl, removeTtl, isPut, allowed, overfull, edit, Edited, stored, faulty, edited, batchOf}
 use Rattle.zone.specs.declared.BatchFault.{BatchFault}
 use Rattle.zone.specs.declared.BatchFault.the-variants.{TooManyEdits, Unreadable, BadValue, StoreFull}
 use Rattle.zone.specs.Fits.{fits}
 use Rattle.zone.specs.Sound.{distinct, good, Sound}
 use Rattle.zone.proofs.Lists.{and-left, and-right, and-both, allOf-append, allOf-map, allOf-keep, allOf-of-map, length-keep}
 use Rattle.zone.proofs.Stores.{distinct-put, distinct-remove, length-put}
-use Rattle.zone.proofs.Layouts.{Fitting, fitting, fits-of, size-le, size-pos, readRecord-fits}
-use Rattle.zone.proofs.Goods.{Good, good-parts, good-of, Allowed, allowed-parts, allowed-of}
+use Rattle.zone.proofs.Layouts.{fitting, fits-of, size-le, size-pos, readRecord-fits}
+use Rattle.zone.proofs.Goods.{good-parts, good-of, allowed-parts, allowed-of}
 
 -- ---- stepping a batch
 
@@ -113,7 +98,8 @@ never f s e = let z : _≡_ {A = ℕ} 0 1 = cc in absurd (omega arith)
 same : {s t : List Record} → stored s ≡ stored t → s ≡ t
 same e = cc
 
-pub editing : (zone : List ℕ) (n : ℕ) (l : List ℕ) (store after : List Record) → edited n zone l store ≡ stored after → Editing zone n l store after
+pub editing : (zone : List ℕ) (n : ℕ) (l : List ℕ) (store after : List Record) → edited n zone l store ≡ stored after
+    → Editing zone n l store after
 editing zone zero [] store after h = subst (Editing zone zero [] store) (same (sym (edited-end zero zone store) ∙ h)) done
 editing zone (suc n) [] store after h = subst (Editing zone (suc n) [] store) (same (sym (edited-end (suc n) zone store) ∙ h)) done
 editing zone zero (b ∷ l) store after h = never TooManyEdits after (sym (edited-more zone (b ∷ l) store (omega arith)) ∙ h)
@@ -127,7 +113,8 @@ editing zone (suc n) (b ∷ l) store after h = go (λ m s. editing zone n m s af
     full ih r e a true f = never StoreFull after (sym (edited-full n zone (b ∷ l) store r e a f) ∙ h)
     full ih r e a false f = next r e a f (ih (drop (size r) (b ∷ l)) (edit store r) (sym (edited-step n zone (b ∷ l) store r e a f) ∙ h))
 
-    value : Rest → (r : Record) → readRecord (b ∷ l) ≡ some r → (t : Bool) → allowed zone r ≡ t → Editing zone (suc n) (b ∷ l) store after
+    value : Rest → (r : Record) → readRecord (b ∷ l) ≡ some r → (t : Bool) → allowed zone r ≡ t
+        → Editing zone (suc n) (b ∷ l) store after
     value ih r e true a = full ih r e a (overfull store r) refl
     value ih r e false a = never BadValue after (sym (edited-bad n zone (b ∷ l) store r e a) ∙ h)
 
@@ -216,7 +203,8 @@ module _ (zone : List ℕ) (store : List Record) (s : Sound zone store) where
   unfolding overfull
   room r p f = go (held (keyOf r) store) refl (length-put r store)
     where
-      go : (b : Bool) → held (keyOf r) store ≡ b → length (put r store) ≡ cond b (length store) (suc (length store)) → length (put r store) ≤ maxRecords
+      go : (b : Bool) → held (keyOf r) store ≡ b → length (put r store) ≡ cond b (length store) (suc (length store))
+          → length (put r store) ≤ maxRecords
       go true e l = omega (arith, s .few)
       go false e l =
           let q : leb maxRecords (length store) ≡ false =
@@ -263,30 +251,20 @@ abbrev pub editedBy : List Record → List Record → List Record
 editedBy [] store = store
 editedBy (r ∷ rs) store = editedBy rs (edit store r)
 
-pub record Edits (zone : List ℕ) (n : ℕ) (store after : List Record) : Type 0 where
+pub record Edits (n : ℕ) (store after : List Record) : Type 0 where
   pub edits : List Record
   pub few : length edits ≤ n
-  pub gives : after ≡ editedBy edits store
-  pub fit : allOf fits edits ≡ true
-  pub values : allOf (allowed zone) edits ≡ true
+  pub gives : editedBy edits store ≡ after
 
-pub edits-of : {zone : List ℕ} {n : ℕ} {l : List ℕ} {store after : List Record} → Editing zone n l store after → areBytes l ≡ true
-    → Edits zone n store after
-edits-of done b = record { edits = []; few = omega arith; gives = refl; fit = refl; values = refl }
-edits-of {l = l} (next r e a f g) b =
-    let x = edits-of g (areBytes-drop (size r) l b) in
-    record {
-      edits = r ∷ x .edits;
-      few = omega (arith, x .few);
-      gives = x .gives;
-      fit = and-both (readRecord-fits l r b e) (x .fit);
-      values = and-both a (x .values);
-    }
+edits-of : {zone : List ℕ} {n : ℕ} {l : List ℕ} {store after : List Record} → Editing zone n l store after → Edits n store after
+edits-of done = record { edits = []; few = omega arith; gives = refl }
+edits-of (next r e a f g) =
+    let x = edits-of g in
+    record { edits = r ∷ x .edits; few = omega (arith, x .few); gives = x .gives }
 
-pub batch-edits : (zone bytes : List ℕ) (store after : List Record) → areBytes bytes ≡ true
-    → batchOf zone bytes store ≡ stored after → Edits zone maxEdits store after
+pub batch-edits : (zone bytes : List ℕ) (store after : List Record) → batchOf zone bytes store ≡ stored after → Edits maxEdits store after
 unfolding batchOf
-batch-edits zone bytes store after b h = edits-of (editing zone maxEdits bytes store after h) b
+batch-edits zone bytes store after h = edits-of (editing zone maxEdits bytes store after h)
 
 -- Every record of the new store is of the old one or an edit's, perhaps with another TTL: what holds of those whatever their
 -- TTL holds of all.

@@ -1,23 +1,22 @@
 -- What a record that a store may hold is like, part by part, and that one is made by a put that was read and allowed.
-use Prim.Native.Nat.{ℕ, _+_, _≤_, _<_}
-use mathlib.Core.Path.{_≡_, refl, sym, ap, _∙_}
-use mathlib.Core.Bool.{Bool, true, false, not, _&&_, _||_}
+use Prim.Native.Nat.{ℕ, _≤_, _<_}
+use mathlib.Core.Path.{_≡_}
+use mathlib.Core.Bool.{true, not, _||_}
 use mathlib.Core.List.{List}
 use native.Mathlib.Omega.{arith}
 use lib.ListN.{length}
-use lib.Dec.{leb, ltb, eqb}
-use lib.Pow.{areBytes}
-use borrow.Author.Tests.{leb-true, le-leb, ltb-true, lt-ltb, eqb-true, eqb-false, not-true}
+use lib.Dec.{eqb}
+use borrow.Author.Tests.{leb-true, le-leb, ltb-true, lt-ltb}
 use Rattle.wire.specs.Name.{isName, within}
 use Rattle.wire.proofs.Names.{isName-max}
 use Rattle.zone.specs.Record.{Record}
-use Rattle.zone.specs.Layout.{fixedSize, size}
-use Rattle.zone.specs.Match.{any}
+use Rattle.zone.specs.Layout.{size}
+use Rattle.dso.specs.Judge.{any}
 use Rattle.zone.specs.Batch.{allowed, isPut, isPlain, maxTtl, removeTtl, maxRdata}
 use Rattle.zone.specs.Sound.{good}
 use Rattle.zone.specs.Fits.{fits, maxSize}
 use Rattle.zone.proofs.Lists.{and-left, and-right}
-use Rattle.zone.proofs.Layouts.{Fitting, fitting, fits-of}
+use Rattle.zone.proofs.Layouts.{fitting, fits-of}
 
 -- ---- an allowed edit
 
@@ -45,8 +44,8 @@ allowed-of zone r a =
     cc
 
 -- A type or class that a record may have isn't the one that asks for any.
-pub plain-not-any : (x : ℕ) → isPlain x ≡ true → eqb x any ≡ false
-plain-not-any x h = not-true (eqb x any) (and-right (not (eqb x 0)) (not (eqb x any)) h)
+pub plain-not-any : (x : ℕ) → isPlain x ≡ true → not (eqb x any) ≡ true
+plain-not-any x h = and-right (not (eqb x 0)) (not (eqb x any)) h
 
 -- ---- a good record
 

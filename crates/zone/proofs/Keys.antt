@@ -1,14 +1,12 @@
 -- Laws of keys: the test of two keys is their equality.
-use Prim.Native.Nat.{ℕ}
-use mathlib.Core.Path.{_≡_, refl, sym, ap, subst, _∙_}
-use mathlib.Core.Logic.{_⊎_, inl, inr}
+use mathlib.Core.Path.{_≡_, refl, sym, subst}
+use mathlib.Core.Logic.{inl, inr}
 use mathlib.Core.Bool.{Bool, true, false, _&&_}
-use mathlib.Core.List.{List}
 use lib.Dec.{eqb}
 use borrow.Author.Tests.{eqb-true, eq-eqb}
 use Rattle.wire.specs.Name.{sameOctets}
 use Rattle.wire.proofs.Names.{sameOctets-true, sameOctets-refl}
-use Rattle.zone.specs.Record.{Record, Key, keyOf, sameKey}
+use Rattle.zone.specs.Record.{Key, sameKey}
 use Rattle.zone.proofs.Lists.{and-left, and-right, and-both, clash, decided, same-test}
 
 pub sameKey-true : (a b : Key) → sameKey a b ≡ true → a ≡ b
@@ -53,6 +51,5 @@ pub data Keys (a b : Key) : Type 0 where
 pub keys : (a b : Key) → Keys a b
 keys a b = elim (decided (sameKey a b)) [ inl e ↦ alike (sameKey-true a b e) e | inr e ↦ apart e ]
 
--- A key that tells two keys apart is not both.
-pub sameKey-apart : (a b c : Key) → sameKey a c ≡ true → sameKey b c ≡ false → sameKey a b ≡ false
-sameKey-apart a b c e f = rw (sameKey-true a c e, sameKey-sym c b, f)
+pub key-discrete : (a b : Key) → Dec (a ≡ b)
+key-discrete a b = elim (keys a b) [ alike p e ↦ yes p | apart e ↦ no (sameKey-false a b e) ]

@@ -1,19 +1,19 @@
 -- Laws of a record's layout: what is written is read back, what is read is what stands there.
-use Prim.Native.Nat.{ℕ, zero, suc, _+_, _^_, _≤_, _<_}
+use Prim.Native.Nat.{ℕ, _+_, _≤_, _<_}
 use mathlib.Core.Path.{_≡_, refl, sym, ap, _∙_, subst}
-use mathlib.Core.Bool.{Bool, true, false, cond, _&&_}
-use mathlib.Core.List.{List, [], _∷_, _++_, append-assoc}
+use mathlib.Core.Bool.{Bool, true, false}
+use mathlib.Core.List.{List, _++_, append-assoc}
 use mathlib.Core.Option.{Option, none, some}
 use native.Mathlib.Omega.{arith}
-use lib.ListN.{length, take, drop, length-append, length-take, length-drop, take-append-drop}
+use lib.ListN.{length, take, drop, length-append, length-drop}
 use lib.Seq.{take-append-seam, drop-append-seam, length-take-le, take-add, drop-drop}
-use lib.Dec.{leb, ltb, lit≤}
+use lib.Dec.{leb, lit≤}
 use lib.Pow.{areBytes}
 use borrow.Author.Tests.{leb-true, leb-false, le-leb, lt-leb, ltb-true, lt-ltb}
 use Rattle.wire.specs.Field.{field, octets}
 use Rattle.wire.specs.Name.{nameLength, isName}
-use Rattle.wire.proofs.Fields.{length-octets, octets-areBytes, field-octets, field-lt, octets-field, areBytes-append, areBytes-take, areBytes-drop}
-use Rattle.wire.proofs.Names.{nameLength-append, nameLength-le, isName-take, isName-pos, isName-max}
+use Rattle.wire.proofs.Fields.{octets-areBytes, field-octets, field-lt, octets-field, areBytes-append, areBytes-take, areBytes-drop}
+use Rattle.wire.proofs.Names.{nameLength-append, nameLength-le, isName-take}
 use Rattle.zone.specs.Record.{Record}
 use Rattle.zone.specs.Layout.{fixedSize, size, recordOctets, readAfter, readRecord}
 use Rattle.zone.specs.Fits.{fits}
@@ -68,6 +68,13 @@ module _ (t c x n : ℕ) (more : List ℕ) where
   unfolding octets
   fixed-rest = refl
 
+  fixed-areBytes : areBytes more ≡ true → areBytes (fixedOctets t c x n more) ≡ true
+  fixed-areBytes h =
+      areBytes-append (octets 2 t) (octets 2 c ++ (octets 4 x ++ (octets 2 n ++ more))) (octets-areBytes 2 t)
+      (areBytes-append (octets 2 c) (octets 4 x ++ (octets 2 n ++ more)) (octets-areBytes 2 c)
+      (areBytes-append (octets 4 x) (octets 2 n ++ more) (octets-areBytes 4 x)
+      (areBytes-append (octets 2 n) more (octets-areBytes 2 n) h)))
+
   fixed-class : c < 65536 → field 2 (drop 2 (fixedOctets t c x n more)) ≡ c
   unfolding octets
   fixed-class h = field-octets 2 c (octets 4 x ++ (octets 2 n ++ more)) h
@@ -85,25 +92,31 @@ module _ (t c x n : ℕ) (more : List ℕ) where
 
 -- ---- stepping a reading
 
--- The record whose name is the first n octets of a list.
-abbrev pub recordIn : List ℕ → ℕ → Record
-recordIn l n =
+-- The length of the RDATA in what follows a name.
+abbrev pub rdlenOf : List ℕ → ℕ
+rdlenOf p = field 2 (drop 8 p)
+
+-- The record with a name in front of a list; and the one whose name is the first n octets of a list.
+abbrev pub recordAfter : List ℕ → List ℕ → Record
+recordAfter owner p =
     record {
-      owner = take n l;
-      rrtype = field 2 (drop n l);
-      rrclass = field 2 (drop 2 (drop n l));
-      ttl = field 4 (drop 4 (drop n l));
-      rdata = take (field 2 (drop 8 (drop n l))) (drop fixedSize (drop n l));
+      owner = owner;
+      rrtype = field 2 p;
+      rrclass = field 2 (drop 2 p);
+      ttl = field 4 (drop 4 p);
+      rdata = take (rdlenOf p) (drop fixedSize p);
     }
 
-pub readAfter-some : (owner l : List ℕ) → fixedSize + field 2 (drop 8 l) ≤ length l
-    → readAfter owner l ≡ some (record { owner = owner; rrtype = field 2 l; rrclass = field 2 (drop 2 l); ttl = field 4 (drop 4 l); rdata = take (field 2 (drop 8 l)) (drop fixedSize l) })
-unfolding readAfter
-readAfter-some owner l h = rw (le-leb (fixedSize + field 2 (drop 8 l)) (length l) h)
+abbrev pub recordIn : List ℕ → ℕ → Record
+recordIn l n = recordAfter (take n l) (drop n l)
 
-pub readAfter-none : (owner l : List ℕ) → length l < fixedSize + field 2 (drop 8 l) → readAfter owner l ≡ none
+pub readAfter-some : (owner l : List ℕ) → fixedSize + rdlenOf l ≤ length l → readAfter owner l ≡ some (recordAfter owner l)
 unfolding readAfter
-readAfter-none owner l h = rw (lt-leb (fixedSize + field 2 (drop 8 l)) (length l) h)
+readAfter-some owner l h = rw (le-leb (fixedSize + rdlenOf l) (length l) h)
+
+pub readAfter-none : (owner l : List ℕ) → length l < fixedSize + rdlenOf l → readAfter owner l ≡ none
+unfolding readAfter
+readAfter-none owner l h = rw (lt-leb (fixedSize + rdlenOf l) (length l) h)
 
 pub readRecord-nameless : (l : List ℕ) → nameLength l ≡ none → readRecord l ≡ none
 unfolding readRecord
@@ -113,11 +126,11 @@ pub readRecord-named : (l : List ℕ) (n : ℕ) → nameLength l ≡ some n → 
 unfolding readRecord
 readRecord-named l n h = rw (h, readRecord)
 
-pub readRecord-some : (l : List ℕ) (n : ℕ) → nameLength l ≡ some n → fixedSize + field 2 (drop 8 (drop n l)) ≤ length (drop n l)
+pub readRecord-some : (l : List ℕ) (n : ℕ) → nameLength l ≡ some n → fixedSize + rdlenOf (drop n l) ≤ length (drop n l)
     → readRecord l ≡ some (recordIn l n)
 readRecord-some l n h k = readRecord-named l n h ∙ readAfter-some (take n l) (drop n l) k
 
-pub readRecord-none : (l : List ℕ) (n : ℕ) → nameLength l ≡ some n → length (drop n l) < fixedSize + field 2 (drop 8 (drop n l))
+pub readRecord-none : (l : List ℕ) (n : ℕ) → nameLength l ≡ some n → length (drop n l) < fixedSize + rdlenOf (drop n l)
     → readRecord l ≡ none
 readRecord-none l n h k = readRecord-named l n h ∙ readAfter-none (take n l) (drop n l) k
 
@@ -138,24 +151,22 @@ pub recordOctets-areBytes : (r : Record) → areBytes (r .owner) ≡ true → ar
 unfolding recordOctets
 recordOctets-areBytes r p q =
     areBytes-append (r .owner) (fixedOctets (r .rrtype) (r .rrclass) (r .ttl) (length (r .rdata)) (r .rdata)) p
-    (areBytes-append (octets 2 (r .rrtype)) (octets 2 (r .rrclass) ++ (octets 4 (r .ttl) ++ (octets 2 (length (r .rdata)) ++ r .rdata))) (octets-areBytes 2 (r .rrtype))
-    (areBytes-append (octets 2 (r .rrclass)) (octets 4 (r .ttl) ++ (octets 2 (length (r .rdata)) ++ r .rdata)) (octets-areBytes 2 (r .rrclass))
-    (areBytes-append (octets 4 (r .ttl)) (octets 2 (length (r .rdata)) ++ r .rdata) (octets-areBytes 4 (r .ttl))
-    (areBytes-append (octets 2 (length (r .rdata))) (r .rdata) (octets-areBytes 2 (length (r .rdata))) q))))
+    (fixed-areBytes (r .rrtype) (r .rrclass) (r .ttl) (length (r .rdata)) (r .rdata) q)
 
 -- A list from whose front on a record's fields stand.
 record Fields (r : Record) (l : List ℕ) : Type 0 where
   rrtype : field 2 l ≡ r .rrtype
   rrclass : field 2 (drop 2 l) ≡ r .rrclass
   ttl : field 4 (drop 4 l) ≡ r .ttl
-  rdlen : field 2 (drop 8 l) ≡ length (r .rdata)
+  rdlen : rdlenOf l ≡ length (r .rdata)
   rdata : take (length (r .rdata)) (drop fixedSize l) ≡ r .rdata
   enough : fixedSize + length (r .rdata) ≤ length l
 
 fields-read : (r : Record) (l : List ℕ) → Fields r l → readAfter (r .owner) l ≡ some r
 fields-read r l f =
-    let d : take (field 2 (drop 8 l)) (drop fixedSize l) ≡ r .rdata = ap (λ (k : ℕ). take k (drop fixedSize l)) (f .rdlen) ∙ f .rdata in
-    let e : fixedSize + field 2 (drop 8 l) ≤ length l = omega (arith, f .rdlen, f .enough) in
+    let d : take (rdlenOf l) (drop fixedSize l) ≡ r .rdata =
+    ap (λ (k : ℕ). take k (drop fixedSize l)) (f .rdlen) ∙ f .rdata in
+    let e : fixedSize + rdlenOf l ≤ length l = omega (arith, f .rdlen, f .enough) in
     readAfter-some (r .owner) l e
     ∙ (λ i. some (record { owner = r .owner; rrtype = f .rrtype i; rrclass = f .rrclass i; ttl = f .ttl i; rdata = d i }))
 
@@ -191,27 +202,27 @@ readRecord-octets r rest h =
 -- A record that was read, by its name's length n.
 pub record Stands (l : List ℕ) (r : Record) (n : ℕ) : Type 0 where
   pub named : nameLength l ≡ some n
-  pub enough : fixedSize + field 2 (drop 8 (drop n l)) ≤ length (drop n l)
+  pub enough : fixedSize + rdlenOf (drop n l) ≤ length (drop n l)
   pub is : r ≡ recordIn l n
 
 pub readRecord-stands : (l : List ℕ) (r : Record) → readRecord l ≡ some r → (n : ℕ) × Stands l r n
 readRecord-stands l r h = go (nameLength l) refl
   where
-    inner : (n : ℕ) → nameLength l ≡ some n → (t : Bool) → leb (fixedSize + field 2 (drop 8 (drop n l))) (length (drop n l)) ≡ t
+    inner : (n : ℕ) → nameLength l ≡ some n → (t : Bool) → leb (fixedSize + rdlenOf (drop n l)) (length (drop n l)) ≡ t
         → (n : ℕ) × Stands l r n
     inner n e true q =
-        let k = leb-true (fixedSize + field 2 (drop 8 (drop n l))) (length (drop n l)) q in
+        let k = leb-true (fixedSize + rdlenOf (drop n l)) (length (drop n l)) q in
         let g : some r ≡ some (recordIn l n) = sym h ∙ readRecord-some l n e k in
         (n, record { named = e; enough = k; is = cc })
     inner n e false q =
-        let g : some r ≡ none = sym h ∙ readRecord-none l n e (leb-false (fixedSize + field 2 (drop 8 (drop n l))) (length (drop n l)) q) in
+        let g : some r ≡ none = sym h ∙ readRecord-none l n e (leb-false (fixedSize + rdlenOf (drop n l)) (length (drop n l)) q) in
         let z : _≡_ {A = ℕ} 0 1 = cc in absurd (omega arith)
 
     go : (o : Option ℕ) → nameLength l ≡ o → (n : ℕ) × Stands l r n
     go none e =
         let g : some r ≡ none = sym h ∙ readRecord-nameless l e in
         let z : _≡_ {A = ℕ} 0 1 = cc in absurd (omega arith)
-    go (some n) e = inner n e (leb (fixedSize + field 2 (drop 8 (drop n l))) (length (drop n l))) refl
+    go (some n) e = inner n e (leb (fixedSize + rdlenOf (drop n l)) (length (drop n l))) refl
 
 take-step : (i a m : ℕ) (p : List ℕ) → take (a + m) (drop i p) ≡ take a (drop i p) ++ take m (drop (i + a) p)
 take-step i a m p = take-add a m (drop i p) ∙ ap (λ (q : List ℕ). take a (drop i p) ++ take m q) (drop-drop a i p)
@@ -226,15 +237,15 @@ fixed-parts k p =
     ∙ ap (λ (q : List ℕ). take 2 (drop 2 p) ++ q) (take-step 4 4 (2 + k) p
     ∙ ap (λ (q : List ℕ). take 4 (drop 4 p) ++ q) (take-step 8 2 k p)))
 
-module _ (l : List ℕ) (n : ℕ) (named : nameLength l ≡ some n) (enough : fixedSize + field 2 (drop 8 (drop n l)) ≤ length (drop n l)) where
+module _ (l : List ℕ) (n : ℕ) (named : nameLength l ≡ some n) (enough : fixedSize + rdlenOf (drop n l) ≤ length (drop n l)) where
   owner-length : length (take n l) ≡ n
   owner-length = length-take-le n l (nameLength-le l n named)
 
-  rdata-length : length (recordIn l n .rdata) ≡ field 2 (drop 8 (drop n l))
+  rdata-length : length (recordIn l n .rdata) ≡ rdlenOf (drop n l)
   rdata-length =
-      length-take-le (field 2 (drop 8 (drop n l))) (drop fixedSize (drop n l)) (omega (arith, length-drop fixedSize (drop n l)))
+      length-take-le (rdlenOf (drop n l)) (drop fixedSize (drop n l)) (omega (arith, length-drop fixedSize (drop n l)))
 
-  in-size : size (recordIn l n) ≡ n + (fixedSize + field 2 (drop 8 (drop n l)))
+  in-size : size (recordIn l n) ≡ n + (fixedSize + rdlenOf (drop n l))
   unfolding size
   in-size = omega (arith, owner-length, rdata-length)
 
@@ -252,7 +263,7 @@ module _ (l : List ℕ) (n : ℕ) (named : nameLength l ≡ some n) (enough : fi
           class16 = field-lt 2 (drop 2 (drop n l)) (areBytes-drop 2 (drop n l) d);
           ttl32 = field-lt 4 (drop 4 (drop n l)) (areBytes-drop 4 (drop n l) d);
           rdata16 = omega (arith, rdata-length, field-lt 2 (drop 8 (drop n l)) (areBytes-drop 8 (drop n l) d));
-          rdataOctets = areBytes-take (field 2 (drop 8 (drop n l))) (drop fixedSize (drop n l)) (areBytes-drop fixedSize (drop n l) d);
+          rdataOctets = areBytes-take (rdlenOf (drop n l)) (drop fixedSize (drop n l)) (areBytes-drop fixedSize (drop n l) d);
         }
 
     -- k octets at a place of what follows the name.
@@ -264,12 +275,23 @@ module _ (l : List ℕ) (n : ℕ) (named : nameLength l ≡ some n) (enough : fi
     unfolding recordOctets
     in-octets =
         let p = drop n l in
-        let k = field 2 (drop 8 p) in
+        let k = rdlenOf p in
         let tail = recordIn l n .rdata in
         let f2 : octets 2 (length tail) ≡ take 2 (drop 8 p) = ap (octets 2) rdata-length ∙ field-there 2 8 (lit≤ tt) in
-        let e : take (fixedSize + k) p ≡ octets 2 (field 2 p) ++ (octets 2 (field 2 (drop 2 p)) ++ (octets 4 (field 4 (drop 4 p)) ++ (octets 2 (length tail) ++ tail))) =
+        let e : take (fixedSize + k) p ≡ fixedOctets (field 2 p) (field 2 (drop 2 p)) (field 4 (drop 4 p)) (length tail) tail =
         fixed-parts k p ∙ cc (field-there 2 0 (lit≤ tt), field-there 2 2 (lit≤ tt), field-there 4 4 (lit≤ tt)) in
         sym (ap (λ (m : ℕ). take m l) in-size ∙ take-add n (fixedSize + k) l ∙ ap (λ (q : List ℕ). take n l ++ q) e)
+
+-- The lengths of what was read.
+module _ (l : List ℕ) (r : Record) (n : ℕ) (s : Stands l r n) where
+  pub stands-owner : length (r .owner) ≡ n
+  stands-owner = ap (λ (q : Record). length (q .owner)) (s .is) ∙ owner-length l n (s .named) (s .enough)
+
+  pub stands-rdata : length (r .rdata) ≡ rdlenOf (drop n l)
+  stands-rdata = ap (λ (q : Record). length (q .rdata)) (s .is) ∙ rdata-length l n (s .named) (s .enough)
+
+  pub stands-size : size r ≡ n + (fixedSize + rdlenOf (drop n l))
+  stands-size = ap size (s .is) ∙ in-size l n (s .named) (s .enough)
 
 -- What was read from octets fits, lies within them, and is what stands at their front.
 pub size-le : (l : List ℕ) (r : Record) → readRecord l ≡ some r → size r ≤ length l
@@ -294,7 +316,7 @@ readRecord-only l r rest b h =
     ap (λ (q : List ℕ). readRecord (q ++ rest)) (readRecord-front l r b h)
     ∙ readRecord-octets r rest (readRecord-fits l r b h)
 
--- A record takes octets: at least a name's one and the ten.
+-- A record takes octets, at least the ten.
 pub size-pos : (r : Record) → fixedSize ≤ size r
 unfolding size
 size-pos r = omega arith

@@ -6,6 +6,7 @@ pub mod Views
 pub mod Layouts
 pub mod Goods
 pub mod Batches
+pub mod Edits
 pub mod Memory
 pub mod Written
 pub mod Updates

@@ -1,9 +1,9 @@
 -- Laws of tests and of lists by a test.
-use Prim.Native.Nat.{ℕ, zero, suc, _≤_}
+use Prim.Native.Nat.{suc, _≤_}
 use mathlib.Core.Path.{_≡_, refl, sym, ap, ap₂, _∙_, fun-ext}
 use mathlib.Core.Logic.{_⊎_, inl, inr}
-use mathlib.Core.Bool.{Bool, true, false, cond, not, _&&_, _||_, Bool·beq, false≢true, or-assoc, and-assoc}
-use mathlib.Core.List.{List, [], _∷_, _++_, map, List·Memᴰ, List·Memᴰ·head, List·Memᴰ·tail, List·Memᴰ·cases-cons}
+use mathlib.Core.Bool.{Bool, true, false, not, _&&_, _||_, Bool·beq, false≢true, or-assoc, or-true, and-assoc}
+use mathlib.Core.List.{List, [], _∷_, _++_, map, List·Memᴰ, List·Memᴰ·head, List·Memᴰ·tail}
 use native.Mathlib.Omega.{arith}
 use lib.ListN.{length}
 use Rattle.zone.specs.Lists.{onlyIf, keep, anyOf, allOf}
@@ -56,12 +56,12 @@ pub never : (a : Bool) → (a ≡ true → ⊥) → a ≡ false
 never true f = absurd (f refl)
 never false f = refl
 
-or-map : (a b c d : Bool) → (a ≡ true → c ≡ true) → (b ≡ true → d ≡ true) → (a || b) ≡ true → (c || d) ≡ true
+pub or-map : (a b c d : Bool) → (a ≡ true → c ≡ true) → (b ≡ true → d ≡ true) → (a || b) ≡ true → (c || d) ≡ true
 or-map true b c d f g e = rw (f refl)
 or-map false b true d f g e = refl
 or-map false b false d f g e = g e
 
-not-or : (a b c : Bool) → not b ≡ c → not (a || b) ≡ (not a && c)
+pub not-or : (a b c : Bool) → not b ≡ c → not (a || b) ≡ (not a && c)
 not-or true b c e = refl
 not-or false b c e = e
 
@@ -110,12 +110,48 @@ module _ {A : Type 0} where
       absorbed true t f h = refl
       absorbed false t f h = f h
 
+  pub anyOf-never : (p q : A → Bool) (l : List A) → allOf p l ≡ true → ((a : A) → p a ≡ true → q a ≡ false) → anyOf q l ≡ false
+  anyOf-never p q [] e f = refl
+  anyOf-never p q (a ∷ l) e f =
+      rw (f a (and-left (p a) (allOf p l) e)) (anyOf-never p q l (and-right (p a) (allOf p l) e) f)
+
+  -- One that passes q, of members that all pass p, passes both.
+  pub anyOf-with : (p q : A → Bool) (l : List A) → allOf p l ≡ true → anyOf q l ≡ true → anyOf (λ (a : A). q a && p a) l ≡ true
+  anyOf-with p q [] e f = f
+  anyOf-with p q (a ∷ l) e f =
+      or-map (q a) (anyOf q l) (q a && p a) (anyOf (λ (a : A). q a && p a) l) (λ h. and-both h (and-left (p a) (allOf p l) e))
+      (anyOf-with p q l (and-right (p a) (allOf p l) e))
+      f
+
   pub allOf-at : (p : A → Bool) (l : List A) {a : A} → allOf p l ≡ true → List·Memᴰ a l → p a ≡ true
   allOf-at p (b ∷ l) e (List·Memᴰ·head q) = ap p q ∙ and-left (p b) (allOf p l) e
   allOf-at p (b ∷ l) e (List·Memᴰ·tail m) = allOf-at p l (and-right (p b) (allOf p l) e) m
 
+  pub anyOf-at : (p : A → Bool) (l : List A) {a : A} → List·Memᴰ a l → p a ≡ true → anyOf p l ≡ true
+  anyOf-at p (b ∷ l) (List·Memᴰ·head q) e = rw (sym (ap p q) ∙ e)
+  anyOf-at p (b ∷ l) (List·Memᴰ·tail m) e = rw (anyOf-at p l m e) (or-true (p b))
+
+  -- The member that passes.
+  pub record Passing (p : A → Bool) (l : List A) : Type 0 where
+    pub member : A
+    pub there : List·Memᴰ member l
+    pub passes : p member ≡ true
+
+  pub anyOf-member : (p : A → Bool) (l : List A) → anyOf p l ≡ true → Passing p l
+  anyOf-member p [] e = clash (anyOf p []) e refl
+  anyOf-member p (a ∷ l) e = go (p a) refl (anyOf-member p l)
+    where
+      go : (b : Bool) → p a ≡ b → (anyOf p l ≡ true → Passing p l) → Passing p (a ∷ l)
+      go true h f = record { member = a; there = List·Memᴰ·head refl; passes = h }
+      go false h f =
+          let x = f (rw h at e) in record { member = x .member; there = List·Memᴰ·tail (x .there); passes = x .passes }
+
+  pub allOf-members : (p : A → Bool) (l : List A) → ((a : A) → List·Memᴰ a l → p a ≡ true) → allOf p l ≡ true
+  allOf-members p [] f = refl
+  allOf-members p (a ∷ l) f = and-both (f a (List·Memᴰ·head refl)) (allOf-members p l (λ b m. f b (List·Memᴰ·tail m)))
+
   -- ---- the members that pass
-  onlyIf-append : (b : Bool) (a : A) (l m : List A) → onlyIf b a (l ++ m) ≡ onlyIf b a l ++ m
+  pub onlyIf-append : (b : Bool) (a : A) (l m : List A) → onlyIf b a (l ++ m) ≡ onlyIf b a l ++ m
   onlyIf-append true a l m = refl
   onlyIf-append false a l m = refl
 

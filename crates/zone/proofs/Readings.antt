@@ -17,7 +17,7 @@ use Rattle.wire.specs.declared.name.NameReading.{NameReading}
 use Rattle.wire.specs.declared.name.NameReading.the-variants.{Name, NoName}
 use Rattle.wire.proofs.Names.{nameLength-pos, nameLength-le}
 use Rattle.zone.specs.Record.{Record}
-use Rattle.zone.specs.Match.{any}
+use Rattle.dso.specs.Judge.{any}
 use Rattle.zone.specs.Layout.{fixedSize, size, readRecord}
 use Rattle.zone.specs.Batch.{maxTtl, removeTtl, maxRdata, isPut, isPlain, allowed}
 use Rattle.zone.specs.Table.{recordFrom}

@@ -1,20 +1,18 @@
 -- Laws of stores: what is found after a change, that no key comes to stand twice, and how long a store is.
-use Prim.Native.Nat.{ℕ, zero, suc, _+_, _≤_}
-use mathlib.Core.Path.{_≡_, refl, sym, ap, ap₂, _∙_, subst}
-use mathlib.Core.Logic.{inl, inr}
-use mathlib.Core.Bool.{Bool, true, false, cond, not, _&&_, _||_, or-false}
+use Prim.Native.Nat.{ℕ, suc}
+use mathlib.Core.Path.{_≡_, refl, sym, ap, _∙_}
+use mathlib.Core.Bool.{Bool, true, false, cond, not, _&&_, _||_}
 use mathlib.Core.List.{List, [], _∷_, _++_, map}
 use mathlib.Core.Option.{Option, none, some}
 use native.Mathlib.Numerals.{add-one}
-use native.Mathlib.Omega.{arith}
 use lib.ListN.{length, length-map, length-append}
 use borrow.Author.Tests.{not-true}
 use Rattle.zone.specs.Lists.{onlyIf, keep, anyOf, allOf}
 use Rattle.zone.specs.Record.{Record, Key, keyOf, sameKey}
 use Rattle.zone.specs.Store.{find, isSome, held, withTtl, setIf, put, remove}
 use Rattle.zone.specs.Sound.{distinct}
-use Rattle.zone.proofs.Lists.{clash, never, and-left, and-right, and-both, or-left, or-right, not-anyOf, keep-all, anyOf-keep, anyOf-map, allOf-map}
-use Rattle.zone.proofs.Keys.{Keys, alike, apart, keys, sameKey-true, sameKey-refl, sameKey-of, sameKey-sym}
+use Rattle.zone.proofs.Lists.{clash, never, and-left, and-right, and-both, not-anyOf, keep-all, anyOf-keep, anyOf-map, allOf-map}
+use Rattle.zone.proofs.Keys.{Keys, alike, apart, keys, sameKey-true, sameKey-refl, sameKey-sym}
 
 -- ---- found and held
 
@@ -155,14 +153,14 @@ pub retimed-false : (t : ℕ) (o : Option ℕ) → retimed false t o ≡ o
 retimed-false t none = refl
 retimed-false t (some u) = refl
 
-keyOf-cond : (b : Bool) (t : ℕ) (r : Record) → keyOf (cond b (withTtl t r) r) ≡ keyOf r
+pub keyOf-cond : (b : Bool) (t : ℕ) (r : Record) → keyOf (cond b (withTtl t r) r) ≡ keyOf r
 keyOf-cond true t r = refl
 keyOf-cond false t r = refl
 
 pub keyOf-setIf : (j : Key) (t : ℕ) (r : Record) → keyOf (setIf j t r) ≡ keyOf r
 keyOf-setIf j t r = keyOf-cond (sameKey (keyOf r) j) t r
 
-ttl-cond : (b : Bool) (t : ℕ) (r : Record) → (cond b (withTtl t r) r) .ttl ≡ cond b t (r .ttl)
+pub ttl-cond : (b : Bool) (t : ℕ) (r : Record) → (cond b (withTtl t r) r) .ttl ≡ cond b t (r .ttl)
 ttl-cond true t r = refl
 ttl-cond false t r = refl
 
@@ -239,7 +237,7 @@ pub distinct-remove : (k : Key) (l : List Record) → distinct l ≡ true → di
 unfolding remove
 distinct-remove k l d = distinct-keep (λ (r : Record). not (sameKey (keyOf r) k)) l d
 
-isSome-retimed : (b : Bool) (t : ℕ) (o : Option ℕ) → isSome (retimed b t o) ≡ isSome o
+pub isSome-retimed : (b : Bool) (t : ℕ) (o : Option ℕ) → isSome (retimed b t o) ≡ isSome o
 isSome-retimed b t none = refl
 isSome-retimed b t (some u) = refl
 

@@ -1,8 +1,8 @@
 -- Laws of views, and what it means that a client has just its view.
-use Prim.Native.Nat.{ℕ, zero, suc, _≤_}
+use Prim.Native.Nat.{ℕ, suc, _≤_}
 use mathlib.Core.Path.{_≡_, refl, sym, ap, _∙_}
 use mathlib.Core.Logic.{_↔_}
-use mathlib.Core.Bool.{Bool, true, false, cond, not, _&&_, _||_, or-false, and-true}
+use mathlib.Core.Bool.{Bool, true, false, cond, _&&_, _||_, or-false, and-true}
 use mathlib.Core.List.{List, [], _∷_, _++_}
 use mathlib.Core.Option.{Option, none, some}
 use native.Mathlib.Omega.{arith}
@@ -12,7 +12,7 @@ use borrow.Author.Tests.{eqb-true, eq-eqb}
 use Rattle.zone.specs.Lists.{onlyIf, keep, anyOf}
 use Rattle.zone.specs.Record.{Record, Key, keyOf, sameKey}
 use Rattle.zone.specs.Store.{find, held}
-use Rattle.zone.specs.Match.{Subscription, matchesKey, matches, wanted, view}
+use Rattle.zone.specs.Match.{Subscription, matchesKey, wanted, view}
 use Rattle.zone.specs.Sound.{distinct, Exactly}
 use Rattle.zone.proofs.Lists.{keep-same, anyOf-append, anyOf-keep, anyOf-map, and-right}
 use Rattle.zone.proofs.Keys.{Keys, alike, apart, keys, sameKey-refl}
@@ -70,11 +70,11 @@ pub record SameMultiset (client view : List Record) : Type 0 where
   pub once : (k : Key) → times k client ≤ 1
   pub same : (k : Key) (t : ℕ) → timesWith k t client ≡ timesWith k t view
 
-abbrev tally : (ℕ → Bool) → Option ℕ → ℕ
+abbrev pub tally : (ℕ → Bool) → Option ℕ → ℕ
 tally p none = 0
 tally p (some t) = cond (p t) 1 0
 
-tallied : (p : ℕ → Bool) (k : Key) (l : List Record) → distinct l ≡ true
+pub tallied : (p : ℕ → Bool) (k : Key) (l : List Record) → distinct l ≡ true
     → length (keep (λ (r : Record). sameKey (keyOf r) k && p (r .ttl)) l) ≡ tally p (find k l)
 unfolding find
 tallied p k [] d = refl
@@ -92,7 +92,7 @@ tallied p k (r ∷ l) d = go (keys (keyOf r) k) (p (r .ttl)) refl (tallied p k l
     go (alike q e) false h ih = rw (e, h) (none-left q ih)
     go (apart e) b h ih = rw e ih
 
-tally-le : (o : Option ℕ) → tally (λ (t : ℕ). true) o ≤ 1
+pub tally-le : (o : Option ℕ) → tally (λ (t : ℕ). true) o ≤ 1
 tally-le none = omega arith
 tally-le (some t) = omega arith
 
@@ -105,7 +105,7 @@ times-distinct k l d = go (tallied (λ (t : ℕ). true) k l d)
     go : length (keep (λ (r : Record). sameKey (keyOf r) k && true) l) ≡ tally (λ (t : ℕ). true) (find k l) → times k l ≤ 1
     go e = let h = tally-le (find k l) in let f = ap length (keep-same (λ (r : Record). sameKey (keyOf r) k && true) (λ (r : Record). sameKey (keyOf r) k) l p) in omega arith
 
-held-times : (k : Key) (l : List Record) → times k l ≤ 0 → held k l ≡ false
+pub held-times : (k : Key) (l : List Record) → times k l ≤ 0 → held k l ≡ false
 held-times k [] h = none-held k [] (unfold find in refl)
 held-times k (r ∷ l) h = go (keys (keyOf r) k) (held-times k l)
   where
@@ -126,7 +126,7 @@ distinct-times (r ∷ l) f =
     fewer k false h = h
 
 -- Tallies of one kind that agree at every TTL are of the same finding.
-tally-same : (o q : Option ℕ) → ((t : ℕ) → tally (λ (u : ℕ). eqb u t) o ≡ tally (λ (u : ℕ). eqb u t) q) → o ≡ q
+pub tally-same : (o q : Option ℕ) → ((t : ℕ) → tally (λ (u : ℕ). eqb u t) o ≡ tally (λ (u : ℕ). eqb u t) q) → o ≡ q
 tally-same none none f = refl
 tally-same none (some u) f = absurd (let h : 0 ≡ 1 = f u ∙ rw (eq-eqb u u refl) in omega arith)
 tally-same (some t) none f = absurd (let h : 1 ≡ 0 = rw (eq-eqb t t refl) at (f t) in omega arith)

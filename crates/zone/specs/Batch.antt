@@ -8,7 +8,7 @@ use lib.Dec.{leb, eqb}
 use Rattle.wire.specs.Name.{within}
 use Rattle.zone.specs.Record.{Record, keyOf}
 use Rattle.zone.specs.Store.{held, put, remove}
-use Rattle.zone.specs.Match.{any}
+use Rattle.dso.specs.Judge.{any}
 use Rattle.zone.specs.Layout.{size, readRecord}
 use Rattle.zone.specs.declared.BatchFault.{BatchFault}
 use Rattle.zone.specs.declared.BatchFault.the-variants.{TooManyEdits, Unreadable, BadValue, StoreFull}

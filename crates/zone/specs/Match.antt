@@ -1,9 +1,9 @@
 -- Subscriptions, what they match, and the view that they give of a store.
 use Prim.Native.Nat.{ℕ}
-use mathlib.Core.Bool.{Bool, _&&_, _||_}
+use mathlib.Core.Bool.{Bool, _&&_}
 use mathlib.Core.List.{List}
-use lib.Dec.{eqb}
 use Rattle.wire.specs.Name.{lowered, sameOctets}
+use Rattle.dso.specs.Match.{asksFor}
 use Rattle.zone.specs.Lists.{keep, anyOf}
 use Rattle.zone.specs.Record.{Record, Key, keyOf}
 
@@ -13,19 +13,11 @@ pub record Subscription : Type 0 where
   pub rrtype : ℕ
   pub rrclass : ℕ
 
--- The value that asks for any type or class, and CNAME's type.
-abbrev pub any : ℕ
-any = 255
-
-abbrev pub cname : ℕ
-cname = 5
-
 -- 01: "A subscription matches a record when names are equal, class is equal or asked as 255, and type is equal, asked as
 -- 255, or the record is CNAME (5)." (RFC 8765, section 2.) An asterisk label is a plain label.
 unfoldable pub matchesKey : Subscription → Key → Bool
 matchesKey s k =
-    sameOctets (lowered (s .owner)) (k .owner) && (eqb (s .rrclass) any || eqb (s .rrclass) (k .rrclass))
-    && (eqb (s .rrtype) any || eqb (s .rrtype) (k .rrtype) || eqb (k .rrtype) cname)
+    sameOctets (lowered (s .owner)) (k .owner) && asksFor (s .rrtype) (s .rrclass) (k .rrtype) (k .rrclass)
 
 abbrev pub matches : Subscription → Record → Bool
 matches s r = matchesKey s (keyOf r)

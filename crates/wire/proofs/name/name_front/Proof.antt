@@ -29,10 +29,12 @@ add-t8 : tie.Need-add-t8 Inv-loop μ-loop
 add-t8 c = omega arith
 
 returns-2 : tie.Need-returns-2 Inv-loop μ-loop
-returns-2 c = search read-zero
+returns-2 c =
+    read-zero _ _ (c .before .before .before .before .loop .inv) (omega arith) (omega arith) (omega arith)
 
 returns-3 : tie.Need-returns-3 Inv-loop μ-loop
-returns-3 c = search read-over
+returns-3 c =
+    read-over _ _ (c .before .before .before .before .before .loop .inv) (omega arith) (omega arith) (omega arith)
 
 add-i : tie.Need-add-i Inv-loop μ-loop
 add-i c = omega arith
@@ -44,7 +46,8 @@ loop-less : tie.Need-loop-less Inv-loop μ-loop
 loop-less c = omega arith
 
 loop-again : tie.Need-loop-again Inv-loop μ-loop
-loop-again c = search read-label
+loop-again c =
+    read-label _ _ (c .before .before .before .before .before .loop .inv) (omega arith) (omega arith) (λ e. omega arith) (omega arith)
 
 returns-4 : tie.Need-returns-4 Inv-loop μ-loop
 returns-4 c = read-past _ _ (c .before .loop .inv) (omega (arith, length-take maxName (c .before .before .args .s .now)))

@@ -1,0 +1,7 @@
+-- Laws of the DSO layer that several proofs, and the layers above, cite.
+pub mod Codes
+pub mod Openings
+pub mod Reading
+pub mod Responses
+pub mod Tlvs
+pub mod Meant

@@ -1,0 +1,91 @@
+// Step 4, by the first TLV, and the whole judgment.
+use crate::data::keepalive;
+use crate::data::reconfirm;
+use crate::data::subscribe;
+use crate::data::unsubscribe;
+use crate::judgment::Judged;
+use crate::judgment::Judgment;
+use crate::judgment::MessageId;
+use crate::judgment::ReplyCode;
+use crate::opening::Start;
+use crate::opening::opened;
+use wire::field16;
+ghost use mathlib.Core.Path.{_≡_};
+ghost use Prim.Native.Nat.{_+_, _≤_};
+ghost use lib.ListN.{length, take, drop};
+ghost use Rattle.dso.specs.Header.{messageId};
+ghost use Rattle.dso.specs.Judge.{byType, judged};
+
+// With an ID to answer.
+fn request(id: MessageId, kind: u16, s: &[u8]) -> Judgment
+    requires { ⌜ (id .0 ≡ 0 → ⊥) ⌝ }
+    ensures { λ r. ⌜ r ≡ byType (id .0) kind (now (s .entry)) ⌝ }
+{
+    if kind == 2 {
+        return Judgment::Abort;
+    }
+    if kind == 0x41 {
+        return Judgment::Abort;
+    }
+    if kind == 1 {
+        return keepalive(id, s);
+    }
+    if kind == 0x40 {
+        return subscribe(id, s);
+    }
+    if kind == 0x42 {
+        return Judgment::Abort;
+    }
+    if kind == 0x43 {
+        return Judgment::Abort;
+    }
+    Judgment::Reply(id, ReplyCode::DsoTypeNi)
+}
+
+// With ID zero: nothing is ever answered.
+fn unidirectional(kind: u16, s: &[u8]) -> Judgment
+    ensures { λ r. ⌜ r ≡ byType 0 kind (now (s .entry)) ⌝ }
+{
+    if kind == 0x42 {
+        return unsubscribe(s);
+    }
+    if kind == 0x43 {
+        return reconfirm(s);
+    }
+    Judgment::Abort
+}
+
+fn by_type(id: MessageId, kind: u16, s: &[u8]) -> Judgment
+    ensures { λ r. ⌜ r ≡ byType (id .0) kind (now (s .entry)) ⌝ }
+{
+    if id.0 == 0 {
+        unidirectional(kind, s)
+    } else {
+        request(id, kind, s)
+    }
+}
+
+// The first TLV's data stands behind the header and its own type and length.
+fn primary(m: &[u8], kind: u16, len: usize) -> Judgment
+    requires { ⌜ 16 + len ≤ length (now m) ⌝ }
+    ensures { λ r. ⌜ r ≡ byType (messageId (now (m .entry))) kind (take len (drop 16 (now (m .entry)))) ⌝ }
+{
+    let id = MessageId(field16(m, 0));
+    by_type(id, kind, &m[16..16 + len])
+}
+
+// Steps 1 to 5 of 01, without the tests that need the session. Total: a message of any length is judged.
+pub fn judge(m: &[u8]) -> Judged
+    ensures { λ r. ⌜ r ≡ judged (now (m .entry)) ⌝ }
+{
+    match opened(m) {
+        Start::Settled(j) => Judged {
+            judgment: j,
+            keepalive: false,
+        },
+        Start::Primary(kind, len) => Judged {
+            judgment: primary(m, kind, len),
+            keepalive: kind == 1,
+        },
+    }
+}

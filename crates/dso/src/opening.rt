@@ -1,0 +1,66 @@
+// Steps 1 to 3: the header, and the TLVs as a whole.
+use crate::header::is_response;
+use crate::header::no_records;
+use crate::header::opcode_of;
+use crate::judgment::Judgment;
+use crate::judgment::MessageId;
+use crate::judgment::ReplyCode;
+use crate::tlv::tlvs_fill;
+use wire::field16;
+ghost use mathlib.Core.Path.{_≡_};
+ghost use Rattle.dso.specs.Header.{messageId};
+ghost use Rattle.dso.specs.Judge.{badForm, formOf, opening};
+ghost use Rattle.dso.specs.Steps.{startOf, wellFormed};
+
+// The judgment is settled, or the first TLV decides: its type, and the length of its data.
+pub enum Start {
+    Settled(Judgment),
+    Primary(u16, usize),
+}
+
+fn bad_form(m: &[u8]) -> Judgment
+    ensures { λ r. ⌜ r ≡ badForm (messageId (now (m .entry))) ⌝ }
+{
+    let id = field16(m, 0);
+    if id == 0 {
+        Judgment::Abort
+    } else {
+        Judgment::Reply(MessageId(id), ReplyCode::FormErr)
+    }
+}
+
+fn well_formed(m: &[u8]) -> bool
+    ensures { λ r. ⌜ r ≡ wellFormed (now (m .entry)) ⌝ }
+{
+    if no_records(m) {
+        if 12 < m.len() {
+            return tlvs_fill(m, 12);
+        }
+    }
+    false
+}
+
+fn form(m: &[u8]) -> Start
+    ensures { λ r. ⌜ r ≡ startOf (formOf (now (m .entry))) ⌝ }
+{
+    if well_formed(m) {
+        Start::Primary(field16(m, 12), field16(m, 14) as usize)
+    } else {
+        Start::Settled(bad_form(m))
+    }
+}
+
+pub fn opened(m: &[u8]) -> Start
+    ensures { λ r. ⌜ r ≡ startOf (opening (now (m .entry))) ⌝ }
+{
+    if m.len() < 12 {
+        return Start::Settled(Judgment::Abort);
+    }
+    if opcode_of(m) != 6 {
+        return Start::Settled(Judgment::NotOurs);
+    }
+    if is_response(m) {
+        return Start::Settled(Judgment::Abort);
+    }
+    form(m)
+}

@@ -1,0 +1,10 @@
+-- The whole service as definitions: its state, its answers, the outcome of each call; the observer, and what demand 3 says of
+-- the two.
+pub mod State
+pub mod Answer
+pub mod Checks
+pub mod Message
+pub mod Call
+pub mod Reader
+pub mod Observer
+pub mod Demand

@@ -1,0 +1,2 @@
+-- Laws of the C library's answers.
+pub mod Answers

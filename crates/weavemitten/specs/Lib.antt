@@ -1,0 +1,2 @@
+-- Definitions of the C library.
+pub mod Questions

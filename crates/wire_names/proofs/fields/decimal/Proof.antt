@@ -1,0 +1,27 @@
+-- `wire_names::fields::decimal` is safe and ends. Assumes nothing.
+use Prim.Native.Nat.{_-_}
+use lib.ListN.{length}
+use borrow.Author.Needs.{needs}
+use Rattle.wire_names.proofs.fields.decimal.Statement.{statement}
+use Rattle.wire_names.proofs.fields.decimal.Tie as tie
+
+abbrev Inv-loop : tie.InvT-loop
+Inv-loop s x₀ i₀ x i = Unit {0}
+
+abbrev μ-loop : tie.MeasureT-loop
+μ-loop s x₀ i₀ x i = length s - i
+
+pub decimal-spec : {M : Type 1} → statement M
+decimal-spec =
+    tie.close
+    (tie.spec
+    Inv-loop
+    μ-loop
+    (λ c. search needs)
+    (λ c. search needs)
+    (λ c. search needs)
+    (λ c κs. search needs)
+    (λ c. search needs)
+    (λ c. search needs)
+    (λ c. search needs)
+    (λ c. search needs))

@@ -1,0 +1,111 @@
+//! The command line.
+
+use reference::{hex, kind_cases, name_cases, replay, script, selftest};
+use std::collections::HashMap;
+use std::io::{self, BufWriter, Read, Write};
+use std::process::ExitCode;
+
+const USAGE: &str = "usage: reference replay | script --seed N --lines N | kinds --seed N --count N | \
+names --seed N --in FILE --out FILE | selftest --seed N --calls N";
+
+/// What stopped a sub-command.
+enum Stop {
+    Usage,
+    Io(io::Error),
+}
+
+impl From<io::Error> for Stop {
+    fn from(error: io::Error) -> Stop {
+        Stop::Io(error)
+    }
+}
+
+/// The arguments after the sub-command: pairs of `--option value`.
+struct Options(HashMap<String, String>);
+
+impl Options {
+    fn read(arguments: &[String], allowed: &[&str]) -> Result<Options, Stop> {
+        let mut found = HashMap::new();
+        for pair in arguments.chunks(2) {
+            let [option, value] = pair else {
+                return Err(Stop::Usage);
+            };
+            if !allowed.contains(&option.as_str()) || found.insert(option.clone(), value.clone()).is_some() {
+                return Err(Stop::Usage);
+            }
+        }
+        match found.len() == allowed.len() {
+            true => Ok(Options(found)),
+            false => Err(Stop::Usage),
+        }
+    }
+
+    fn number(&self, option: &str) -> Result<u64, Stop> {
+        self.0[option].parse().map_err(|_| Stop::Usage)
+    }
+}
+
+fn kinds(options: Options) -> Result<ExitCode, Stop> {
+    let mut out = BufWriter::new(io::stdout().lock());
+    for (message, kind) in kind_cases::cases(options.number("--seed")?, options.number("--count")? as usize) {
+        writeln!(out, "{}\t{kind}", hex::write(&message))?;
+    }
+    out.flush()?;
+    Ok(ExitCode::SUCCESS)
+}
+
+fn names(options: Options) -> Result<ExitCode, Stop> {
+    let cases = name_cases::cases(options.number("--seed")?);
+    std::fs::write(&options.0["--in"], cases.input)?;
+    std::fs::write(&options.0["--out"], cases.output)?;
+    Ok(ExitCode::SUCCESS)
+}
+
+fn replay_input() -> Result<ExitCode, Stop> {
+    let mut input = Vec::new();
+    io::stdin().lock().read_to_end(&mut input)?;
+    io::stdout().lock().write_all(replay::replay(&input).as_bytes())?;
+    Ok(ExitCode::SUCCESS)
+}
+
+fn write_script(options: Options) -> Result<ExitCode, Stop> {
+    let text = script::script(options.number("--seed")?, options.number("--lines")? as usize);
+    io::stdout().lock().write_all(&text)?;
+    Ok(ExitCode::SUCCESS)
+}
+
+fn test_itself(options: Options) -> Result<ExitCode, Stop> {
+    let (report, code) = match selftest::run(options.number("--seed")?, options.number("--calls")?) {
+        Ok(counts) => (counts.report(), ExitCode::SUCCESS),
+        Err(failure) => (failure.report(), ExitCode::from(1)),
+    };
+    io::stdout().lock().write_all(report.as_bytes())?;
+    Ok(code)
+}
+
+fn run(arguments: &[String]) -> Result<ExitCode, Stop> {
+    let (command, rest) = arguments.split_first().ok_or(Stop::Usage)?;
+    match command.as_str() {
+        "replay" if rest.is_empty() => replay_input(),
+        "script" => write_script(Options::read(rest, &["--seed", "--lines"])?),
+        "selftest" => test_itself(Options::read(rest, &["--seed", "--calls"])?),
+        "kinds" => kinds(Options::read(rest, &["--seed", "--count"])?),
+        "names" => names(Options::read(rest, &["--seed", "--in", "--out"])?),
+        _ => Err(Stop::Usage),
+    }
+}
+
+fn main() -> ExitCode {
+    let arguments: Vec<String> = std::env::args().skip(1).collect();
+    match run(&arguments) {
+        Ok(code) => code,
+        Err(Stop::Usage) => {
+            eprintln!("{USAGE}");
+            ExitCode::from(2)
+        }
+        Err(Stop::Io(error)) => {
+            eprintln!("reference: {error}");
+            ExitCode::from(2)
+        }
+    }
+}
