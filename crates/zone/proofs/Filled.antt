@@ -10,14 +10,14 @@ use lib.Seq.{sets, length-sets}
 use Rattle.wire.specs.Field.{field, octets}
 use Rattle.wire.specs.Part.{part}
 use Rattle.wire.proofs.Fields.{length-octets}
-use Rattle.wire.proofs.Writes.{take-sets, drop-sets-add, part-written}
+use Rattle.wire.proofs.Writes.{take-sets, drop-sets-add, part-written, field-written}
 use Rattle.table.specs.Blocks.{blocks, textAt}
 use Rattle.table.proofs.Blocks.{blocks-suc, blocks-past}
 use Rattle.zone.specs.Record.{Record}
 use Rattle.zone.specs.Batch.{maxRecords}
 use Rattle.zone.specs.Table.{blockSize, areaSize, blockAt, recOf, recordsOf, recordFrom}
 use Rattle.zone.specs.Update.{numbered}
-use Rattle.zone.proofs.Written.{Write, writes, field-kept, part-kept, field-here, field-written, octet-field}
+use Rattle.zone.proofs.Written.{Write, writes, field-kept, part-kept, field-here, octet-field}
 use Rattle.zone.proofs.Updates.{records-plain, length-block}
 
 -- Nothing before block n has changed, and that block is b.
@@ -79,9 +79,9 @@ module _ (b name : List ℕ) (t c x : ℕ) (d : List ℕ) (l : length b ≡ bloc
       let o : textAt (filled b name t c x d) 0 10 ≡ name =
       ap (part (filled b name t c x d) 10) n ∙ part-kept 265 wd b6 10 (length name) refl (omega arith) ∙ part-written b5 10 name (omega arith) in
       let p : textAt (filled b name t c x d) 1 265 ≡ d = ap (part (filled b name t c x d) 265) m ∙ part-written b6 265 d (omega arith) in
-      let q = field-kept 4 wc b3 2 2 refl (omega arith) ∙ field-written b2 2 2 t (omega arith) ht in
-      let r = field-kept 6 wx b4 4 2 refl (omega arith) ∙ field-written b3 4 2 c (omega arith) hc in
-      let s = field-kept 10 wn b5 6 4 refl (omega arith) ∙ field-written b4 6 4 x (omega arith) hx in
+      let q = field-kept 4 wc b3 2 2 refl (omega arith) ∙ field-written 2 t b2 2 (omega arith) ht in
+      let r = field-kept 6 wx b4 4 2 refl (omega arith) ∙ field-written 2 c b3 4 (omega arith) hc in
+      let s = field-kept 10 wn b5 6 4 refl (omega arith) ∙ field-written 4 x b4 6 (omega arith) hx in
       λ i. record { owner = o i; rrtype = q i; rrclass = r i; ttl = s i; rdata = p i }
 
 -- The code's four steps.

@@ -10,7 +10,7 @@ use lib.ListN.{length, take, drop, length-drop, drop-of-length-le}
 use lib.Seq.{sets, length-sets, drop-drop, take-all, length-take-le}
 use Rattle.wire.specs.Part.{part}
 use Rattle.wire.specs.Name.{maxName}
-use Rattle.wire.proofs.Names.{nameLength-max, nameLength-le}
+use Rattle.wire.proofs.Names.{nameLength-max}
 use Rattle.wire.proofs.Writes.{take-written}
 use Rattle.table.specs.Blocks.{blocks}
 use Rattle.zone.specs.Record.{Record}
@@ -32,7 +32,7 @@ use Rattle.zone.specs.declared.editing.Stepped.the-variants.{Next, Stop}
 use Rattle.zone.specs.declared.editing.BatchResult.{BatchResult}
 use Rattle.zone.specs.declared.editing.BatchResult.the-variants.{Stored, Faulty}
 use Rattle.zone.proofs.Goods.{allowed-parts}
-use Rattle.zone.proofs.Layouts.{readRecord-stands}
+use Rattle.zone.proofs.Layouts.{readRecord-stands, stands-owner}
 use Rattle.zone.proofs.Batches.{edited-end, edited-more, edited-unreadable, edited-bad, edited-full, edited-step}
 use Rattle.zone.proofs.Readings.{Places, recordOf-edit, places-within}
 
@@ -103,8 +103,7 @@ module _ (zone s : List ℕ) (at : ℕ) (m : CheckedEdit) (h : m ≡ checkedAt z
 name-max : (l : List ℕ) (r : Record) → readRecord l ≡ some r → length (r .owner) ≤ maxName
 name-max l r h =
     let (n, t) = readRecord-stands l r h in
-    let w : length (r .owner) ≡ n = ap (λ (q : Record). length (q .owner)) (t .is) ∙ length-take-le n l (nameLength-le l n (t .named)) in
-    omega (arith, nameLength-max l n (t .named))
+    omega (arith, stands-owner l r n t, nameLength-max l n (t .named))
 
 module _ (zone s : List ℕ) (at : ℕ) (e : Edit) (c : Checked zone s at e) where
   pub checked-within : e .start + e .namelen + fixedSize + e .rdlen ≤ length s

@@ -10,7 +10,7 @@ use lib.ListN.{length, take, drop, getD, set, length-drop, length-take, length-s
 use lib.Seq.{sets, length-sets, take-suc, take-suc-set, take-all, set-getD, drop-set-lt, drop-cons, length-take-le}
 use Rattle.wire.specs.Field.{field, octets}
 use Rattle.wire.proofs.Fields.{length-octets}
-use Rattle.wire.proofs.Writes.{drop-sets-after}
+use Rattle.wire.proofs.Writes.{drop-sets-after, field-before, field-written}
 use Rattle.table.specs.Blocks.{blocks, cut, slid, textAt}
 use Rattle.table.proofs.Blocks.{map-cut, map-set, blocks-at, blocks-sets, blocks-slid, take-cut, drop-cut}
 use Rattle.zone.specs.Lists.{keep, onlyIf}
@@ -21,7 +21,6 @@ use Rattle.zone.specs.Table.{blockSize, areaSize, blockAt, recOf, record
 use Rattle.zone.specs.Update.{keyed, TtlSet, TtlSetIf, DroppedIf}
 use Rattle.zone.proofs.Lists.{keep-append}
 use Rattle.zone.proofs.Memory.{noRecord, length-records, records-at}
-use Rattle.zone.proofs.Written.{field-before, field-written}
 
 -- ---- a TTL in a block
 
@@ -31,12 +30,12 @@ recOf-timed b t l h =
     let v : List ℕ = octets 4 t in
     let n = length-octets 4 t in
     let o : textAt (sets b 6 v) 0 10 ≡ textAt b 0 10 =
-    ap₂ (λ (m : ℕ) (d : List ℕ). take m d) (field-before b 6 v 1 0 (omega arith)) (drop-sets-after 10 b 6 v (omega arith)) in
+    ap₂ (λ (m : ℕ) (d : List ℕ). take m d) (field-before 1 b 6 v 0 (omega arith)) (drop-sets-after 10 b 6 v (omega arith)) in
     let d : textAt (sets b 6 v) 1 265 ≡ textAt b 1 265 =
-    ap₂ (λ (m : ℕ) (d : List ℕ). take m d) (field-before b 6 v 1 1 (omega arith)) (drop-sets-after 265 b 6 v (omega arith)) in
-    let p = field-before b 6 v 2 2 (omega arith) in
-    let q = field-before b 6 v 2 4 (omega arith) in
-    let r = field-written b 6 4 t (omega arith) h in
+    ap₂ (λ (m : ℕ) (d : List ℕ). take m d) (field-before 1 b 6 v 1 (omega arith)) (drop-sets-after 265 b 6 v (omega arith)) in
+    let p = field-before 2 b 6 v 2 (omega arith) in
+    let q = field-before 2 b 6 v 4 (omega arith) in
+    let r = field-written 4 t b 6 (omega arith) h in
     λ i. record { owner = o i; rrtype = p i; rrclass = q i; ttl = r i; rdata = d i }
 
 -- ---- the store as a list

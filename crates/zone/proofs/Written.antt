@@ -1,41 +1,28 @@
 -- Laws of octets that were written, in a row and at places: what a field is, and what they leave as it was.
-use Prim.Native.Nat.{ℕ, _+_, _^_, _≤_, _<_}
+use Prim.Native.Nat.{ℕ, _+_, _≤_}
 use mathlib.Core.Path.{_≡_, refl, sym, ap, _∙_}
 use mathlib.Core.Bool.{Bool, true}
-use mathlib.Core.List.{List, [], _∷_, append-nil}
+use mathlib.Core.List.{List, [], _∷_}
 use native.Mathlib.Nat.{zero-add}
 use native.Mathlib.Omega.{arith}
 use lib.ListN.{length, take, drop}
 use lib.Seq.{sets}
 use lib.Dec.{leb}
 use borrow.Author.Tests.{leb-true}
-use Rattle.wire.specs.Field.{field, octets}
+use Rattle.wire.specs.Field.{field}
 use Rattle.wire.specs.Part.{part}
-use Rattle.wire.proofs.Fields.{field-take-le, field-octets, length-octets}
-use Rattle.wire.proofs.Writes.{take-sets-before, drop-sets-after, part-before, part-written}
+use Rattle.wire.proofs.Fields.{field-take-le}
+use Rattle.wire.proofs.Writes.{take-sets-before, part-written}
 use Rattle.table.proofs.Blocks.{part-part}
 use Rattle.zone.specs.Lists.{allOf}
 use Rattle.zone.proofs.Lists.{and-left, and-right}
 
--- ---- fields of a list that was written to
+-- ---- a field that was written, whatever its octets
 
-module _ (o : List ℕ) (i : ℕ) (vs : List ℕ) where
-  pub field-before : (n k : ℕ) → k + n ≤ i → field n (drop k (sets o i vs)) ≡ field n (drop k o)
-  field-before n k h =
-      sym (field-take-le n n (drop k (sets o i vs)) (omega arith)) ∙ ap (field n) (part-before o i vs k n h)
-      ∙ field-take-le n n (drop k o) (omega arith)
-
-  pub field-after : (n k : ℕ) → i + length vs ≤ k → field n (drop k (sets o i vs)) ≡ field n (drop k o)
-  field-after n k h = ap (field n) (drop-sets-after k o i vs h)
-
-  pub field-here : (n : ℕ) → length vs ≡ n → i + n ≤ length o → field n (drop i (sets o i vs)) ≡ field n vs
-  field-here n e h =
-      sym (field-take-le n n (drop i (sets o i vs)) (omega arith))
-      ∙ ap (λ (m : ℕ). field n (part (sets o i vs) i m)) (sym e) ∙ ap (field n) (part-written o i vs (omega arith))
-
-pub field-written : (o : List ℕ) (i n x : ℕ) → i + n ≤ length o → x < 256 ^ n → field n (drop i (sets o i (octets n x))) ≡ x
-field-written o i n x h k =
-    field-here o i (octets n x) n (length-octets n x) h ∙ ap (field n) (sym (append-nil (octets n x))) ∙ field-octets n x [] k
+pub field-here : (o : List ℕ) (i : ℕ) (vs : List ℕ) (n : ℕ) → length vs ≡ n → i + n ≤ length o → field n (drop i (sets o i vs)) ≡ field n vs
+field-here o i vs n e h =
+    sym (field-take-le n n (drop i (sets o i vs)) (omega arith))
+    ∙ ap (λ (m : ℕ). field n (part (sets o i vs) i m)) (sym e) ∙ ap (field n) (part-written o i vs (omega arith))
 
 pub octet-field : (x : ℕ) → field 1 (x ∷ []) ≡ x
 unfolding field
