@@ -1,17 +1,21 @@
 -- Laws of one edit applied to the store in lent memory, and of the index of a key.
 use Prim.Native.Nat.{ℕ, zero, suc, min, _+_, _≤_, _<_}
-use mathlib.Core.Path.{_≡_, refl, sym, ap, ap₂, _∙_}
+use mathlib.Core.Path.{_≡_, refl, sym, ap, ap₂, _∙_, subst}
 use mathlib.Core.Bool.{Bool, true, false, cond, not, _&&_, _||_}
 use mathlib.Core.List.{List, [], _∷_, _++_, map}
 use mathlib.Core.Option.{Option, none, some}
 use native.Mathlib.Nat.{min-eq-left}
+use native.Mathlib.Numerals.{one-add}
 use native.Mathlib.Omega.{arith}
 use lib.ListN.{length, getD}
 use lib.Dec.{leb}
 use borrow.Author.Tests.{le-leb, lt-leb}
 use Rattle.wire.specs.Name.{after}
+use Rattle.table.specs.Blocks.{cut}
+use Rattle.zone.specs.Lists.{onlyIf}
 use Rattle.zone.specs.Record.{Record, Key, keyOf, sameKey}
 use Rattle.zone.specs.Store.{find, isSome, held, setIf, put, remove}
+use Rattle.zone.specs.Sound.{distinct}
 use Rattle.zone.specs.Batch.{maxRecords, maxTtl, isPut, overfull, edit}
 use Rattle.zone.specs.Table.{recordsOf, indexOf, foundAt}
 use Rattle.zone.specs.Update.{storeOf, countOf, applied, AppliedAs}
@@ -19,8 +23,9 @@ use Rattle.zone.specs.declared.records.Found.{Found}
 use Rattle.zone.specs.declared.records.Found.the-variants.{At, Nothing}
 use Rattle.zone.specs.declared.update.Applied.{Applied}
 use Rattle.zone.specs.declared.update.Applied.the-variants.{Count, Full}
-use Rattle.zone.proofs.Stores.{held-cons, none-held}
-use Rattle.zone.proofs.Memory.{length-records}
+use Rattle.zone.proofs.Stores.{held-cons, none-held, find-alike, find-apart, remove-absent, distinct-head, distinct-tail}
+use Rattle.zone.proofs.Keys.{sameKey-true}
+use Rattle.zone.proofs.Memory.{noRecord, length-records}
 
 -- ---- the index of a key
 
@@ -34,6 +39,57 @@ held-index k (r ∷ l) = held-cons k r l ∙ ap (λ (t : Bool). sameKey (keyOf r
     go true o = refl
     go false none = refl
     go false (some i) = refl
+
+-- The first record with a key stands in front, or behind.
+data First (k : Key) (r : Record) (l : List Record) : ℕ → Type 0 where
+  here : sameKey (keyOf r) k ≡ true → First k r l 0
+  later : {j : ℕ} → sameKey (keyOf r) k ≡ false → indexOf k l ≡ some j → First k r l (suc j)
+
+first : (k : Key) (r : Record) (l : List Record) (i : ℕ) → indexOf k (r ∷ l) ≡ some i → First k r l i
+unfolding indexOf
+first k r l i e = go (sameKey (keyOf r) k) refl (indexOf k l) refl
+  where
+    value : (b : Bool) → sameKey (keyOf r) k ≡ b → (o : Option ℕ) → indexOf k l ≡ o → cond b (some 0) (after 1 o) ≡ some i
+    value b h o g = sym (ap₂ (λ (b : Bool) (o : Option ℕ). cond b (some 0) (after 1 o)) h g) ∙ e
+
+    go : (b : Bool) → sameKey (keyOf r) k ≡ b → (o : Option ℕ) → indexOf k l ≡ o → First k r l i
+    go true h o g =
+        let w : some 0 ≡ some i = value true h o g in
+        let z : 0 ≡ i = cc in subst (First k r l) z (here h)
+    go false h none g =
+        let w : none ≡ some i = value false h none g in
+        let z : _≡_ {A = ℕ} 0 1 = cc in absurd (omega arith)
+    go false h (some j) g =
+        let w : some (1 + j) ≡ some i = value false h (some j) g in
+        let z : 1 + j ≡ i = cc in subst (First k r l) (sym (one-add j) ∙ z) (later h g)
+
+never : {X : Type 0} (k : Key) (i : ℕ) → indexOf k [] ≡ some i → X
+unfolding indexOf
+never k i e = let w : none ≡ some i = e in let z : _≡_ {A = ℕ} 0 1 = cc in absurd (omega arith)
+
+-- What stands at the index is what is found there.
+pub find-index : (k : Key) (l : List Record) (i : ℕ) → indexOf k l ≡ some i → find k l ≡ some (getD l i noRecord .ttl)
+find-index k [] i e = never k i e
+find-index k (r ∷ l) i e = go (first k r l i e) (find-index k l)
+  where
+    go : {i : ℕ} → First k r l i → ((j : ℕ) → indexOf k l ≡ some j → find k l ≡ some (getD l j noRecord .ttl))
+        → find k (r ∷ l) ≡ some (getD (r ∷ l) i noRecord .ttl)
+    go (here h) f = find-alike k r l h
+    go (later {j} h g) f = find-apart k r l h ∙ f j g
+
+-- Where no key stands twice, a removal takes that one record.
+pub remove-index : (k : Key) (l : List Record) (i : ℕ) → distinct l ≡ true → indexOf k l ≡ some i → remove k l ≡ cut i l
+unfolding cut remove
+remove-index k [] i d e = never k i e
+remove-index k (r ∷ l) i d e = go (first k r l i e) (λ j. remove-index k l j (distinct-tail r l d))
+  where
+    kept : (b : Bool) → sameKey (keyOf r) k ≡ b → remove k (r ∷ l) ≡ onlyIf (not b) r (remove k l)
+    kept b h = ap (λ (b : Bool). onlyIf (not b) r (remove k l)) h
+
+    go : {i : ℕ} → First k r l i → ((j : ℕ) → indexOf k l ≡ some j → remove k l ≡ cut j l) → remove k (r ∷ l) ≡ cut i (r ∷ l)
+    go (here h) f =
+        kept true h ∙ remove-absent k l (ap (λ (k : Key). held k l) (sym (sameKey-true (keyOf r) k h)) ∙ distinct-head r l d)
+    go (later {j} h g) f = kept false h ∙ ap (λ (m : List Record). r ∷ m) (f j g)
 
 module _ (k : Key) (l : List Record) (f : Found) (e : f ≡ foundAt (indexOf k l)) where
   pub found-held : (i : ℕ) → f ≡ At i → held k l ≡ true
