@@ -88,11 +88,13 @@ low-small (b ∷ l) =
 unfoldable pub bytes : List ℕ → Bytes
 bytes l = record { list = map (λ (b : ℕ). b % 256) l; small = low-small l }
 
+-- A message: an ID, and one TLV.
+abbrev pub messageOf : ℕ → ℕ → List ℕ → List ℕ
+messageOf id kind value = header id unidirectionalFlags ++ tlvsOctets (record { kind = kind; value = value } ∷ [])
+
 -- A SUBSCRIBE message: an ID, a name, a type.
 abbrev pub subscribe : ℕ → List ℕ → ℕ → List ℕ
-subscribe id name rrtype =
-    header id unidirectionalFlags
-    ++ tlvsOctets (record { kind = subscribeType; value = name ++ (octets 2 rrtype ++ octets 2 classIn) } ∷ [])
+subscribe id name rrtype = messageOf id subscribeType (name ++ (octets 2 rrtype ++ octets 2 classIn))
 
 -- Edits: each record is put; each is deleted.
 unfoldable pub puts : List Record → List ℕ
