@@ -4,7 +4,7 @@ use mathlib.Core.Bool.{true, false}
 use mathlib.Core.List.{List, [], _∷_, _++_, map}
 use mathlib.Core.Option.{Option, some}
 use mathlib.Core.Path.{_≡_, refl}
-use lib.ListN.{length, drop, replicate}
+use lib.ListN.{length, take, drop, replicate}
 use Rattle.wire.specs.Field.{octets, field}
 use Rattle.wire.specs.Name.{labels, nameLength, isName, lower, sameOctets, sameName, endsIn, within}
 use Rattle.dso.specs.Header.{messageId, flags, isResponse, opcode, noRecords}
@@ -58,6 +58,7 @@ use Rattle.service.specs.Call.{
   Call,
   Outcome,
   opens,
+  closes,
   receives,
   ticks,
   running,
@@ -66,6 +67,7 @@ use Rattle.service.specs.Call.{
   openOutcome,
   effectOutcome,
   messageOutcome,
+  closeOutcome,
   batchOutcome,
   tickOutcome,
   passed,
@@ -108,6 +110,7 @@ use Rattle.service.proofs.Examples.{
   server,
   ready,
   watched,
+  bytesIn,
   sent0,
   replyFlags,
   pushed,
@@ -168,6 +171,13 @@ tooLong = bytes (replicate 65536 0)
 abbrev pub asking : State
 asking = watched [] (subscribe 1 host typeAny ∷ [])
 
+-- Sessions 0 and 1, and session 1 has asked.
+abbrev pub both : State
+both = after ready (opens 1000 ∷ [])
+
+abbrev pub asking1 : State
+asking1 = after both (receives 1000 1 (bytes paperMessage) lent ∷ [])
+
 pub record Bench : Type 0 where
   -- "Zone shop.example."
   pub starts : start zone ≡ running server
@@ -209,8 +219,9 @@ pub record Bench : Type 0 where
   -- 10. "Matched by A and by ANY: one add."
   pub one-add : pushed (outcome (watched [] (subscribe 1 host typeA ∷ subscribe 2 host typeAny ∷ [])) (batch (puts (address ∷ []))))
       ≡ some ((addition address ∷ []) ∷ [])
-  -- 11. "NOTAUTH flags are B009."
+  -- 11. "NOTAUTH flags are B009." The refused one isn't live.
   pub not-auth : flagsFor (drop 5 zone) ≡ 0xB009
+  pub not-auth-live : subscriptionsOf (slotAt (outcome ready (message (subscribe 1 (drop 5 zone) typeA)) .next) 0) ≡ []
   -- 12. "Keepalive reply data 00003A98 0000EA60", whatever was asked for.
   pub keepalive-reply : sent0 (outcome ready (message (messageOf 1 keepaliveType (octets 8 0))))
       ≡ octets 26 0x00180001b00000000000000000000001000800003a980000ea60
@@ -228,6 +239,12 @@ pub record Bench : Type 0 where
         class = place 34 2;
         rdata = place 36 4;
       })
+  -- "session s writes from s x 16,384": what session 1 is sent stands there, and session 0 is sent nothing.
+  pub own-reply : bytesIn (outcome both (receives 1000 1 (bytes paperMessage) lent)) 1 ≡ take 14 paperReply
+  pub own-push : map (bytesIn (outcome asking1 (batch paperBatch))) (0 ∷ 1 ∷ 2 ∷ 3 ∷ []) ≡ [] ∷ drop 14 paperReply ∷ [] ∷ [] ∷ []
+  -- "Freed sessions and places are used again; open takes the lowest free number." The new session has no subscription.
+  pub used-again : answers (outcomes asking (opens 1000 ∷ closes 1000 0 ∷ opens 1000 ∷ batch paperBatch ∷ []))
+      ≡ opened 1 ∷ done ∷ opened 0 ∷ done ∷ []
   -- "spelling is never a change": the held record put in capitals with TTL 60 keeps its place and spelling, and a client that
   -- asked in capitals is told one add; the same record and TTL in capitals is no change.
   pub spelled-store : capitals0 60 .next .store
@@ -236,7 +253,7 @@ pub record Bench : Type 0 where
   pub spelled-only : capitals0 120 .answer ≡ done
 
 pub bench : Bench
-unfolding octets field labels nameLength isName lower sameOctets sameName endsIn within messageId flags isResponse opcode noRecords tlvs tlvsFrom badForm formOf opening byType judgment isKeepalive judged judgeSubscribe judgeKeepalive judgeUnsubscribe judgeReconfirm header tlvOctets tlvsOctets framed response responseOctets asksFor asksType asksClass sameKey find held put remove size recordOctets readAfter readRecord matchesKey allowed overfull edit edited batchOf covers isTrue fieldsOf widest alike chosen firsts removals additions changes changesOctets pushMessage pushOctets pushOf notified changesIn frameOf framesIn isUnidirectional pushIn started received granted expired without usesId asksAlready isFull fresh lowestFree refusalOf asked subscribed keptAlive answered messageEffect start written openOutcome effectOutcome messageOutcome batchOutcome tickOutcome passed outcome bytesFor pushesIn bytes puts outcomes after
+unfolding octets field labels nameLength isName lower sameOctets sameName endsIn within messageId flags isResponse opcode noRecords tlvs tlvsFrom badForm formOf opening byType judgment isKeepalive judged judgeSubscribe judgeKeepalive judgeUnsubscribe judgeReconfirm header tlvOctets tlvsOctets framed response responseOctets asksFor asksType asksClass sameKey find held put remove size recordOctets readAfter readRecord matchesKey allowed overfull edit edited batchOf covers isTrue fieldsOf widest alike chosen firsts removals additions changes changesOctets pushMessage pushOctets pushOf notified changesIn frameOf framesIn isUnidirectional pushIn started received granted expired without usesId asksAlready isFull fresh lowestFree refusalOf asked subscribed keptAlive answered messageEffect start written openOutcome effectOutcome messageOutcome closeOutcome batchOutcome tickOutcome passed outcome bytesFor pushesIn bytes puts outcomes after
 bench =
     record {
       starts = refl;
@@ -262,10 +279,14 @@ bench =
       put-back-otherwise = refl;
       one-add = refl;
       not-auth = refl;
+      not-auth-live = refl;
       keepalive-reply = refl;
       order = refl;
       order-13 = refl;
       unsubscribed = refl;
+      own-reply = refl;
+      own-push = refl;
+      used-again = refl;
       reconfirmed = refl;
       spelled-store = refl;
       spelled-push = refl;

@@ -140,10 +140,14 @@ ready = after server (opens 1000 ∷ [])
 abbrev pub watched : List Record → List (List ℕ) → State
 watched held messages = after ready (batch (puts held) ∷ map message messages)
 
--- ---- what session 0 sees
+-- ---- what a session is sent
 
+abbrev pub bytesIn : Outcome → ℕ → List ℕ
+bytesIn x s = bytesFor (x .answer) (x .output) s
+
+-- Session 0.
 abbrev pub sent0 : Outcome → List ℕ
-sent0 x = bytesFor (x .answer) (x .output) 0
+sent0 x = bytesIn x 0
 
 -- The flags of the first message.
 abbrev pub replyFlags : Outcome → ℕ
