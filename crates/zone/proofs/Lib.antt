@@ -2,6 +2,7 @@
 pub mod Lists
 pub mod Keys
 pub mod Stores
+pub mod Spelling
 pub mod Views
 pub mod Layouts
 pub mod Goods
