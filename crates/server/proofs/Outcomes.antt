@@ -97,7 +97,7 @@ module _ (s : Server) (t : ℕ) (v : Vacant) (h : (m : Memory) → vacantOf v �
   unfolding answerOf
   gives-opened i e x f z g m =
       let slot : slotOf x (areaAt i m) ≡ live (record { subscriptions = []; clocks = started t })
-        = ap (λ (y : Session). slotOf y (areaAt i m)) f ∙ slot-newcomer t (areaAt i m) in
+      = ap (λ (y : Session). slotOf y (areaAt i m)) f ∙ slot-newcomer t (areaAt i m) in
       rw (open-some (stateOf s m) t i (sym (h m) ∙ ap vacantOf e))
       (record {
         next =
@@ -115,7 +115,7 @@ pub gives-closed : (s : Server) (t i : ℕ) (x : Session) → x ≡ vacancy → 
 unfolding closeOutcome answerOf
 gives-closed s t i x f z g m =
     let slot : slotOf x (areaAt i m) ≡ free
-      = ap (λ (y : Session). slotOf y (areaAt i m)) f ∙ slot-vacancy (areaAt i m) in
+    = ap (λ (y : Session). slotOf y (areaAt i m)) f ∙ slot-vacancy (areaAt i m) in
     record {
       next =
           ap (λ (y : Server). stateOf y m) g ∙ state-put t i x s m
