@@ -1,201 +1,153 @@
--- What a judgment says of the message's octets, for the layers above.
-use Prim.Native.Nat.{ℕ, zero, suc, _+_, _≤_, _<_}
+-- What holds of a judgment, whatever the message: whose ID it carries, that only what has an ID is answered, with no error
+-- but FORMERR and DSOTYPENI, and where the parts of a SUBSCRIBE and of a RECONFIRM stand in the message.
+-- Assumes nothing.
+use Prim.Native.Nat.{ℕ, _+_, _-_, _≤_}
 use native.Mathlib.Omega.{arith}
+use mathlib.Core.Path.{_≡_, refl, sym, ap, subst, subst⁻¹, _∙_}
 use mathlib.Core.Bool.{Bool, true, false, cond, not, _||_}
-use mathlib.Core.List.{List, [], _∷_, _++_, append-assoc}
+use mathlib.Core.List.{List}
 use mathlib.Core.Option.{Option, none, some}
-use mathlib.Core.Path.{_≡_, refl, sym, ap, _∙_}
-use lib.ListN.{length, take, drop, take-append-drop}
-use lib.Seq.{drop-drop}
+use lib.ListN.{length, take, drop, length-take, length-drop}
+use lib.Seq.{take-take}
 use lib.Dec.{eqb, ltb}
-use borrow.Author.Tests.{eqb-true}
+use borrow.Author.Tests.{eqb-true, eqb-false, ltb-false}
 use Rattle.wire.specs.Field.{field}
-use Rattle.wire.specs.Name.{nameLength}
-use Rattle.wire.proofs.Fields.{field-append}
-use Rattle.wire.proofs.Names.{nameLength-front}
-use Rattle.dso.specs.Header.{headerLength, dsoOpcode, messageId, isResponse, opcode, noRecords}
-use Rattle.dso.specs.Tlv.{Tlv, tlvFront, also, tlvs, tlvsFrom}
-use Rattle.dso.specs.Judge.{
-  keepaliveType,
-  retryDelayType,
-  subscribeType,
-  pushType,
-  unsubscribeType,
-  reconfirmType,
-  any,
-  mid,
-  dataStart,
-  badForm,
-  Opening,
-  settled,
-  primary,
-  firstOf,
-  formOf,
-  opening,
-  request,
-  unidirectional,
-  keepalive,
-  question,
-  asks,
-  subscribe,
-  unsubscribe,
-  disputed,
-  disputes,
-  reconfirm,
-  byType,
-  concluded,
-  judgment,
-}
+use Rattle.wire.specs.Name.{nameLength, isName}
+use Rattle.wire.proofs.Names.{isName-take}
+use Rattle.dso.specs.Header.{messageId, opcode, isResponse}
+use Rattle.dso.specs.Judge.{Opening, Opening.settled, Opening.primary, mid, badForm, formOf, opening, request, unidirectional, keepalive, question, asks, subscribe, unsubscribe, disputed, disputes, reconfirm, byType, concluded, judgment}
+use Rattle.dso.proofs.Openings.{form-primary, form-settled}
+use Rattle.dso.specs.Steps.{wellFormed}
+use Rattle.dso.specs.Parts.{firstData, firstType, Sound, SubscribeParts, ReconfirmParts}
 use Rattle.dso.specs.declared.judgment.MessageId.{MessageId}
-use Rattle.dso.specs.declared.judgment.Question.{Question}
+use Rattle.dso.specs.declared.judgment.QuestionPlaces.{QuestionPlaces}
+use Rattle.dso.specs.declared.judgment.RecordPlaces.{RecordPlaces}
+use Rattle.dso.specs.declared.judgment.ReplyCode.the-variants.{FormErr, DsoTypeNi}
 use Rattle.dso.specs.declared.judgment.Judgment.{Judgment}
 use Rattle.dso.specs.declared.judgment.Judgment.the-variants.{NotOurs, Abort, Reply, Keepalive, Subscribe, Unsubscribe, Reconfirm}
-use Rattle.dso.specs.declared.judgment.ReplyCode.the-variants.{FormErr, DsoTypeNi}
 
--- The type of the first TLV.
-abbrev pub firstType : List ℕ → ℕ
-firstType m = field 2 (drop headerLength m)
+-- What steps 1 to 3 settle.
+abbrev Settles : ℕ → ℕ → List ℕ → Opening → Type 0
+Settles id k v (settled j) = Sound id k v j
+Settles id k v (primary t) = (t .kind ≡ k) × (t .value ≡ v)
 
--- A SUBSCRIBE: the ID is the message's, a name stands at the data's start, and type and class behind it.
-pub record Asking (m : List ℕ) (id : MessageId) (q : Question) : Type 0 where
-  pub sameId : id .0 ≡ messageId m
-  pub first : firstType m ≡ subscribeType
-  pub size : ℕ
-  pub named : nameLength (drop dataStart m) ≡ some size
-  pub places : q ≡ question size
+either : {A : Type 0} (P : A → Type 0) (t : Bool) (a b : A) → (t ≡ true → P a) → (t ≡ false → P b) → P (cond t a b)
+either P true a b p q = p refl
+either P false a b p q = q refl
 
--- What is known of a message that is judged so. A reply with an error is to the message's own ID.
-abbrev pub Meant : List ℕ → Judgment → Type 0
-Meant m NotOurs = Unit {0}
-Meant m Abort = Unit {0}
-Meant m (Reply id code) = id .0 ≡ messageId m
-Meant m (Keepalive id) = (id .0 ≡ messageId m) × (firstType m ≡ keepaliveType)
-Meant m (Subscribe id q) = Asking m id q
-Meant m (Unsubscribe id) = id .0 ≡ field 2 (drop dataStart m)
-Meant m (Reconfirm r) = Unit {0}
+module _ (id k : ℕ) (v : List ℕ) where
+  with-id : (j : Judgment) → ((id ≡ 0 → ⊥) → Sound id k v j) → Sound id k v (request id j)
+  with-id j p = either (Sound id k v) (eqb id 0) Abort j (λ e. tt) (λ e. p (eqb-false id 0 e))
 
-module _ (m : List ℕ) where
-  cond-meant : (b : Bool) (i j : Judgment) → (b ≡ true → Meant m i) → (b ≡ false → Meant m j) → Meant m (cond b i j)
-  cond-meant true i j f g = f refl
-  cond-meant false i j f g = g refl
+  with-none : (j : Judgment) → (id ≡ 0 → Sound id k v j) → Sound id k v (unidirectional id j)
+  with-none j p = either (Sound id k v) (eqb id 0) j Abort (λ e. p (eqb-true id 0 e)) (λ e. tt)
 
-  bad-form : Meant m (badForm (messageId m))
+  badForm-sound : Sound id k v (badForm id)
   unfolding badForm
-  bad-form =
-      cond-meant (eqb (messageId m) 0) Abort (Reply (mid (messageId m)) FormErr) (λ (e : eqb (messageId m) 0 ≡ true). tt)
-      (λ (e : eqb (messageId m) 0 ≡ false). refl)
+  badForm-sound = with-id (Reply (mid id) FormErr) (λ h. (refl, h, tt))
 
-  -- The first TLV's data.
-  abbrev value : List ℕ
-  value = take (field 2 (drop 2 (drop headerLength m))) (drop 4 (drop headerLength m))
+  keepalive-sound : k ≡ 1 → (id ≡ 0 → ⊥) → Sound id k v (keepalive id v)
+  unfolding keepalive
+  keepalive-sound is h =
+      either (Sound id k v) (eqb (length v) 8) (Keepalive (mid id)) (Reply (mid id) FormErr) (λ e. (refl, h, is)) (λ e. (refl, h, tt))
 
-  -- What the opening comes to is a judgment that needs no TLV, or the first TLV.
-  abbrev Opened : Opening → Type 0
-  Opened (settled j) = Meant m j
-  Opened (primary t) = t ≡ tlvFront (drop headerLength m)
+  asks-sound : (o : Option ℕ) → nameLength v ≡ o → k ≡ 0x40 → (id ≡ 0 → ⊥) → Sound id k v (asks id (length v) o)
+  asks-sound none e is h = (refl, h, tt)
+  asks-sound (some n) e is h =
+      either (Sound id k v) (eqb (length v) (n + 4)) (Subscribe (mid id) (question n)) (Reply (mid id) FormErr)
+      (λ d. (refl, h, record { n = n; named = e; size = eqb-true (length v) (n + 4) d; places = refl }, is))
+      (λ d. (refl, h, tt))
 
-  cond-opened : (b : Bool) (i j : Opening) → Opened i → Opened j → Opened (cond b i j)
-  cond-opened true i j f g = f
-  cond-opened false i j f g = g
+  unsubscribe-sound : id ≡ 0 → Sound id k v (unsubscribe v)
+  unfolding unsubscribe
+  unsubscribe-sound h =
+      either (Sound id k v) (eqb (length v) 2) (Unsubscribe (mid (field 2 v))) Abort
+      (λ e. (h, refl, eqb-true (length v) 2 e)) (λ e. tt)
 
-  first-opened : (l : List ℕ) → l ≡ drop headerLength m → Opened (firstOf (messageId m) (tlvs l))
-  unfolding tlvs tlvsFrom
-  first-opened [] e = bad-form
-  first-opened (b ∷ l) e = go (tlvsFrom (3 + field 2 (drop 1 l)) l)
-    where
-      go : (o : Option (List Tlv)) → Opened (firstOf (messageId m) (also (tlvFront (b ∷ l)) o))
-      go none = bad-form
-      go (some ts) = ap tlvFront e
+  disputes-sound : (o : Option ℕ) → nameLength v ≡ o → id ≡ 0 → Sound id k v (disputes v o)
+  disputes-sound none e h = tt
+  disputes-sound (some n) e h =
+      let all : Bool = eqb (field 2 (drop n v)) 255 || eqb (field 2 (drop (n + 2) v)) 255 in
+      let r : Judgment = Reconfirm (disputed n (length v)) in
+      either (Sound id k v) (ltb (length v) (n + 4)) Abort (cond all Abort r) (λ d. tt)
+      (λ d. either (Sound id k v) all Abort r (λ f. tt)
+      (λ f. (h, record { n = n; named = e; size = ltb-false (length v) (n + 4) d; places = refl })))
 
-  opened : Opened (opening m)
-  unfolding opening formOf
-  opened =
-      cond-opened (ltb (length m) headerLength) (settled Abort) _ tt
-      (cond-opened (not (eqb (opcode m) dsoOpcode)) (settled NotOurs) _ tt
-      (cond-opened (isResponse m) (settled Abort) _ tt
-      (cond-opened (noRecords m) _ (settled (badForm (messageId m))) (first-opened (drop headerLength m) refl) bad-form)))
+  byType-sound : Sound id k v (byType id k v)
+  unfolding byType subscribe reconfirm
+  byType-sound =
+      let other : Judgment = request id (Reply (mid id) DsoTypeNi) in
+      let four : Judgment = cond (eqb k 0x43) (unidirectional id (reconfirm v)) other in
+      let three : Judgment = cond (eqb k 0x42) (unidirectional id (unsubscribe v)) four in
+      let two : Judgment = cond (eqb k 0x40) (request id (subscribe id v)) three in
+      let one : Judgment = cond (eqb k 1) (request id (keepalive id v)) two in
+      either (Sound id k v) (eqb k 2 || eqb k 0x41) Abort one (λ e. tt)
+      (λ e. either (Sound id k v) (eqb k 1) (request id (keepalive id v)) two (λ d. with-id (keepalive id v) (keepalive-sound (eqb-true k 1 d)))
+      (λ e. either (Sound id k v) (eqb k 0x40) (request id (subscribe id v)) three (λ d. with-id (subscribe id v) (asks-sound (nameLength v) refl (eqb-true k 0x40 d)))
+      (λ e. either (Sound id k v) (eqb k 0x42) (unidirectional id (unsubscribe v)) four (λ d. with-none (unsubscribe v) unsubscribe-sound)
+      (λ e. either (Sound id k v) (eqb k 0x43) (unidirectional id (reconfirm v)) other (λ d. with-none (reconfirm v) (disputes-sound (nameLength v) refl))
+      (λ e. with-id (Reply (mid id) DsoTypeNi) (λ h. (refl, h, tt)))))))
 
-  -- A name at the front of the data is a name at the data's place in the message: what follows a name doesn't matter.
-  named-there : (n : ℕ) → nameLength value ≡ some n → nameLength (drop dataStart m) ≡ some n
-  named-there n e =
-      let k = field 2 (drop 2 (drop headerLength m)) in
-      let l = drop 4 (drop headerLength m) in
-      ap nameLength
-      (sym (drop-drop 4 headerLength m) ∙ sym (take-append-drop k l)
-      ∙ ap (λ (x : List ℕ). x ++ drop k l) (sym (take-append-drop n value))
-      ∙ append-assoc (take n value) (drop n value) (drop k l))
-      ∙ nameLength-front value n (drop n value ++ drop k l) e
+  concluded-sound : (o : Opening) → Settles id k v o → Sound id k v (concluded id o)
+  concluded-sound (settled j) h = h
+  concluded-sound (primary t) h = rw (h .0, h .1) byType-sound
 
-  module _ (id : ℕ) (same : id ≡ messageId m) where
-    subscribe-meant : firstType m ≡ subscribeType → Meant m (subscribe id value)
-    unfolding subscribe
-    subscribe-meant first = go (nameLength value) refl
-      where
-        go : (o : Option ℕ) → nameLength value ≡ o → Meant m (asks id (length value) o)
-        go none e = same
-        go (some n) e =
-            cond-meant (eqb (length value) (n + 4)) (Subscribe (mid id) (question n)) (Reply (mid id) FormErr)
-            (λ (t : eqb (length value) (n + 4) ≡ true).
-            record { sameId = same; first = first; size = n; named = named-there n e; places = refl })
-            (λ (f : eqb (length value) (n + 4) ≡ false). same)
+formOf-settles : (m : List ℕ) (w : Bool) → wellFormed m ≡ w → Settles (messageId m) (firstType m) (firstData m) (formOf m)
+formOf-settles m true w = subst⁻¹ (Settles (messageId m) (firstType m) (firstData m)) (form-primary m w) (refl, refl)
+formOf-settles m false w = subst⁻¹ (Settles (messageId m) (firstType m) (firstData m)) (form-settled m w) (badForm-sound (messageId m) (firstType m) (firstData m))
 
-    reconfirm-meant : Meant m (reconfirm value)
-    unfolding reconfirm
-    reconfirm-meant = go (nameLength value)
-      where
-        go : (o : Option ℕ) → Meant m (disputes value o)
-        go none = tt
-        go (some n) =
-            cond-meant (ltb (length value) (n + 4)) Abort _ (λ (t : ltb (length value) (n + 4) ≡ true). tt)
-            (λ (f : ltb (length value) (n + 4) ≡ false).
-            cond-meant (eqb (field 2 (drop n value)) any || eqb (field 2 (drop (n + 2) value)) any) Abort (Reconfirm (disputed n (length value)))
-            (λ (t : (eqb (field 2 (drop n value)) any || eqb (field 2 (drop (n + 2) value)) any) ≡ true). tt)
-            (λ (t : (eqb (field 2 (drop n value)) any || eqb (field 2 (drop (n + 2) value)) any) ≡ false). tt))
+opening-settles : (m : List ℕ) → Settles (messageId m) (firstType m) (firstData m) (opening m)
+unfolding opening
+opening-settles m =
+    let P : Opening → Type 0 = Settles (messageId m) (firstType m) (firstData m) in
+    let form : Opening = cond (isResponse m) (settled Abort) (formOf m) in
+    let ours : Opening = cond (not (eqb (opcode m) 6)) (settled NotOurs) form in
+    either P (ltb (length m) 12) (settled Abort) ours (λ e. tt)
+    (λ e. either P (not (eqb (opcode m) 6)) (settled NotOurs) form (λ d. tt)
+    (λ e. either P (isResponse m) (settled Abort) (formOf m) (λ d. tt) (λ d. formOf-settles m (wellFormed m) refl)))
 
-    request-meant : (j : Judgment) → Meant m j → Meant m (request id j)
-    request-meant j h = cond-meant (eqb id 0) Abort j (λ (e : eqb id 0 ≡ true). tt) (λ (e : eqb id 0 ≡ false). h)
-
-    unidirectional-meant : (j : Judgment) → Meant m j → Meant m (unidirectional id j)
-    unidirectional-meant j h = cond-meant (eqb id 0) j Abort (λ (e : eqb id 0 ≡ true). h) (λ (e : eqb id 0 ≡ false). tt)
-
-    keepalive-meant : firstType m ≡ keepaliveType → Meant m (keepalive id value)
-    unfolding keepalive
-    keepalive-meant first =
-        cond-meant (eqb (length value) 8) (Keepalive (mid id)) (Reply (mid id) FormErr)
-        (λ (t : eqb (length value) 8 ≡ true). (same, first)) (λ (f : eqb (length value) 8 ≡ false). same)
-
-    -- Two octets of data: the field in them is the field at their place in the message.
-    unsubscribe-meant : Meant m (unsubscribe value)
-    unfolding unsubscribe
-    unsubscribe-meant =
-        cond-meant (eqb (length value) 2) (Unsubscribe (mid (field 2 value))) Abort
-        (λ (t : eqb (length value) 2 ≡ true).
-        let k = field 2 (drop 2 (drop headerLength m)) in
-        let l = drop 4 (drop headerLength m) in
-        sym (field-append 2 value (drop k l) (omega (arith, eqb-true (length value) 2 t)))
-        ∙ ap (field 2) (take-append-drop k l ∙ drop-drop 4 headerLength m))
-        (λ (f : eqb (length value) 2 ≡ false). tt)
-
-    byType-meant : Meant m (byType id (firstType m) value)
-    unfolding byType
-    byType-meant =
-        let k = firstType m in
-        cond-meant (eqb k retryDelayType || eqb k pushType) Abort _ (λ (t : (eqb k retryDelayType || eqb k pushType) ≡ true). tt)
-        (λ (f₁ : (eqb k retryDelayType || eqb k pushType) ≡ false). cond-meant (eqb k keepaliveType) (request id (keepalive id value)) _
-        (λ (t : eqb k keepaliveType ≡ true). request-meant (keepalive id value) (keepalive-meant (eqb-true k keepaliveType t)))
-        (λ (f₂ : eqb k keepaliveType ≡ false). cond-meant (eqb k subscribeType) (request id (subscribe id value)) _
-        (λ (t : eqb k subscribeType ≡ true). request-meant (subscribe id value) (subscribe-meant (eqb-true k subscribeType t)))
-        (λ (f₃ : eqb k subscribeType ≡ false). cond-meant (eqb k unsubscribeType) (unidirectional id (unsubscribe value)) _
-        (λ (t : eqb k unsubscribeType ≡ true). unidirectional-meant (unsubscribe value) unsubscribe-meant)
-        (λ (f₄ : eqb k unsubscribeType ≡ false). cond-meant (eqb k reconfirmType) (unidirectional id (reconfirm value)) _
-        (λ (t : eqb k reconfirmType ≡ true). unidirectional-meant (reconfirm value) reconfirm-meant)
-        (λ (f₅ : eqb k reconfirmType ≡ false). request-meant (Reply (mid id) DsoTypeNi) same)))))
-
-  concluded-meant : (o : Opening) → Opened o → Meant m (concluded (messageId m) o)
-  concluded-meant (settled j) h = h
-  concluded-meant (primary t) h = rw h (byType-meant (messageId m) refl)
-
--- Every judgment means what its message's octets say.
-pub judgment-meant : (m : List ℕ) → Meant m (judgment m)
+-- Whatever a message is judged to be.
+pub judgment-sound : (m : List ℕ) → Sound (messageId m) (firstType m) (firstData m) (judgment m)
 unfolding judgment
-judgment-meant m = concluded-meant m (opening m) (opened m)
+judgment-sound m = concluded-sound (messageId m) (firstType m) (firstData m) (opening m) (opening-settles m)
+
+-- ---- the parts in the message
+
+module _ (m : List ℕ) (n : ℕ) (named : nameLength (firstData m) ≡ some n) (size : n + 4 ≤ length (firstData m)) where
+  shorter : length (firstData m) ≤ field 2 (drop 14 m)
+  shorter = simp length-take (omega arith)
+
+  data-room : 16 + length (firstData m) ≤ length m
+  data-room =
+      let inside : length (firstData m) ≤ length m - 16 = simp (length-take, length-drop) (omega arith) in
+      omega arith
+
+  name-there : isName (take n (drop 16 m)) ≡ true
+  name-there = ap isName (sym (take-take n (field 2 (drop 14 m)) (drop 16 m) (omega (arith, shorter)))) ∙ isName-take (firstData m) n named
+
+pub subscribe-parts : (m : List ℕ) (i : MessageId) (q : QuestionPlaces) → judgment m ≡ Subscribe i q → SubscribeParts m i q
+subscribe-parts m i q e =
+    let s : Sound (messageId m) (firstType m) (firstData m) (Subscribe i q) = subst (Sound (messageId m) (firstType m) (firstData m)) e (judgment-sound m) in
+    let a = s .2 in
+    let size : a .n + 4 ≤ length (firstData m) = omega (arith, a .size) in
+    record {
+      n = a .n;
+      id = s .0;
+      answered = λ z. s .1 (sym (s .0) ∙ z);
+      places = a .places;
+      name = name-there m (a .n) (a .named) size;
+      room = omega (arith, a .size, data-room m (a .n) (a .named) size);
+    }
+
+pub reconfirm-parts : (m : List ℕ) (r : RecordPlaces) → judgment m ≡ Reconfirm r → ReconfirmParts m r
+reconfirm-parts m r e =
+    let s : Sound (messageId m) (firstType m) (firstData m) (Reconfirm r) = subst (Sound (messageId m) (firstType m) (firstData m)) e (judgment-sound m) in
+    let a = s .1 in
+    record {
+      n = a .n;
+      d = length (firstData m);
+      places = a .places;
+      name = name-there m (a .n) (a .named) (a .size);
+      inside = a .size;
+      room = data-room m (a .n) (a .named) (a .size);
+    }

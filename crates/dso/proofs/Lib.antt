@@ -1,7 +1,8 @@
 -- Laws of the DSO layer that several proofs, and the layers above, cite.
-pub mod Codes
+pub mod Bench
+pub mod Judgments
 pub mod Openings
 pub mod Reading
 pub mod Responses
 pub mod Tlvs
-pub mod Judgments
+pub mod Meant

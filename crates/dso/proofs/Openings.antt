@@ -5,8 +5,8 @@ use native.Mathlib.Nat.{add-sub-cancel-left}
 use native.Mathlib.Omega.{arith}
 use mathlib.Core.Path.{_≡_, refl, sym, ap, _∙_}
 use mathlib.Core.Bool.{Bool, true, false, cond, not, _&&_, true≢false, false≢true}
-use mathlib.Core.List.{List, [], _∷_}
-use mathlib.Core.Option.{Option, none, some}
+use mathlib.Core.List.{List, []}
+use mathlib.Core.Option.{Option, some}
 use lib.ListN.{length, take, drop, length-drop, drop-of-length-le}
 use lib.Seq.{drop-drop, length-take-le}
 use lib.Dec.{ltb, eqb}
@@ -14,7 +14,7 @@ use borrow.Author.Tests.{ltb-true, ltb-false}
 use Rattle.wire.specs.Field.{field}
 use Rattle.dso.specs.Header.{messageId, noRecords, opcode, isResponse}
 use Rattle.dso.specs.Tlv.{Tlv, tlvFront, tlvsFrom, tlvs, filled}
-use Rattle.dso.specs.Judge.{Opening, Opening.settled, Opening.primary, badForm, firstOf, formOf, opening, byType, concluded, judgment, opensKeepalive, isKeepalive, judged}
+use Rattle.dso.specs.Judge.{Opening, Opening.settled, Opening.primary, badForm, firstOf, formOf, opening, byType, judgment, isKeepalive, judged}
 use Rattle.dso.specs.Steps.{startOf, wellFormed}
 use Rattle.dso.specs.declared.judgment.Judgment.{Judgment}
 use Rattle.dso.specs.declared.judgment.Judgment.the-variants.{NotOurs, Abort}

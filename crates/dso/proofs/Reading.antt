@@ -11,7 +11,6 @@ use Rattle.wire.specs.declared.name.NameReading.{NameReading}
 use Rattle.wire.specs.declared.name.NameReading.the-variants.{Name}
 use Rattle.wire.proofs.Names.{nameAt-name, nameLength-max}
 use Rattle.dso.specs.Judge.{byType}
-use Rattle.dso.specs.declared.judgment.Judgment.{Judgment}
 use Rattle.dso.specs.declared.judgment.Judgment.the-variants.{Abort}
 
 module _ (v : ℕ) {x f : ℕ} (read : x ≡ f) where

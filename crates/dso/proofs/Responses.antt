@@ -1,22 +1,21 @@
 -- Laws of messages that are written: the header and TLVs read back, and the responses from one write after the other.
 -- Assumes nothing.
-use Prim.Native.Nat.{ℕ, zero, suc, _+_, _*_, _/_, _%_, _^_, _<_, _≤_}
+use Prim.Native.Nat.{ℕ, _+_, _/_, _%_, _<_, _≤_}
 use native.Mathlib.Omega.{arith}
 use mathlib.Core.Path.{_≡_, refl, sym, ap, ap₂, _∙_}
 use mathlib.Core.Bool.{Bool, true}
 use mathlib.Core.List.{List, [], _∷_, _++_, append-nil, append-assoc}
 use mathlib.Core.Option.{Option, some}
-use lib.ListN.{length, take, drop, length-append}
+use lib.ListN.{length, drop, length-append}
 use lib.Seq.{sets, take-at, drop-at, drop-drop}
-use lib.Dec.{leb, lit<}
+use lib.Dec.{lit<}
 use borrow.Author.Tests.{le-leb}
 use Rattle.wire.specs.Field.{field, octets}
 use Rattle.wire.proofs.Fields.{field-octets, octets-two, length-octets}
 use Rattle.wire.proofs.Writes.{sets-append}
 use Rattle.dso.specs.Header.{messageId, flags, isResponse, opcode, zBits, rcode, noRecords}
 use Rattle.dso.specs.Tlv.{Tlv, tlvFront, also, tlvsFrom, tlvs}
-use Rattle.dso.specs.Response.{rcodeOf, header, responseFlags, tlvOctets, tlvsOctets, framed, responseCode, responseTlvs, response, responseOctets, ReadsMessage, ReadsAs}
-use Rattle.dso.specs.declared.judgment.ReplyCode.{ReplyCode}
+use Rattle.dso.specs.Response.{header, responseFlags, tlvOctets, tlvsOctets, framed, responseCode, responseTlvs, response, responseOctets, ReadsMessage, ReadsAs}
 use Rattle.dso.specs.declared.judgment.ReplyCode.the-variants.{FormErr, ServFail, NotAuth, DsoTypeNi}
 use Rattle.dso.specs.declared.response.Timeouts.{Timeouts}
 use Rattle.dso.specs.declared.response.Response.{Response}

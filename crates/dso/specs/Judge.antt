@@ -1,21 +1,21 @@
 -- The judgment of a message from its octets alone: 01, "Judging a message", steps 1 to 5 in its order, without the tests
--- that need the session (an ID in use, the zone, the limit), which are the server's. "Abort" is 01's forcible abort:
--- RFC 8490, 5.3: "'forcibly abort' ... means sending a TCP RST or the equivalent for other protocols".
+-- that need the session (an ID in use, the zone, the limit), which are the server's. `Abort` is the forcible abort:
+-- RFC 8490, 5.3: "Where this specification says "forcibly abort", it means sending a TCP RST or the equivalent for other
+-- protocols."
 use Prim.Native.Nat.{ℕ, _+_, _-_}
-use mathlib.Core.Bool.{Bool, true, false, cond, not, _||_}
+use mathlib.Core.Bool.{Bool, false, cond, not, _||_}
 use mathlib.Core.List.{List, [], _∷_}
 use mathlib.Core.Option.{Option, none, some}
 use lib.ListN.{length, drop}
-use lib.Dec.{leb, ltb, eqb}
+use lib.Dec.{ltb, eqb}
 use Rattle.wire.specs.Field.{field}
 use Rattle.wire.specs.Name.{nameLength}
 use Rattle.dso.specs.Header.{headerLength, dsoOpcode, messageId, isResponse, opcode, noRecords}
 use Rattle.dso.specs.Tlv.{Tlv, tlvs}
 use Rattle.dso.specs.declared.judgment.MessageId.{MessageId}
 use Rattle.dso.specs.declared.judgment.Place.{Place}
-use Rattle.dso.specs.declared.judgment.Question.{Question}
-use Rattle.dso.specs.declared.judgment.Record.{Record}
-use Rattle.dso.specs.declared.judgment.ReplyCode.{ReplyCode}
+use Rattle.dso.specs.declared.judgment.QuestionPlaces.{QuestionPlaces}
+use Rattle.dso.specs.declared.judgment.RecordPlaces.{RecordPlaces}
 use Rattle.dso.specs.declared.judgment.ReplyCode.the-variants.{FormErr, DsoTypeNi}
 use Rattle.dso.specs.declared.judgment.Judgment.{Judgment}
 use Rattle.dso.specs.declared.judgment.Judgment.the-variants.{NotOurs, Abort, Reply, Keepalive, Subscribe, Unsubscribe, Reconfirm}
@@ -111,7 +111,7 @@ keepalive id v = cond (eqb (length v) 8) (Keepalive (mid id)) (Reply (mid id) Fo
 -- length of the name at its front.
 -- RFC 8765, 6.2.1: "The DSO-DATA for a SUBSCRIBE request MUST contain exactly one NAME, TYPE, and CLASS." 6.2.2: FORMERR,
 -- "Server failed to process request due to a malformed request."
-abbrev pub question : ℕ → Question
+abbrev pub question : ℕ → QuestionPlaces
 question n = record { name = place dataStart n; rtype = place (dataStart + n) 2; class = place (dataStart + n + 2) 2 }
 
 abbrev pub asks : ℕ → ℕ → Option ℕ → Judgment
@@ -131,7 +131,7 @@ unsubscribe v = cond (eqb (length v) 2) (Unsubscribe (mid (field 2 v))) Abort
 -- RFC 8765, 6.5.1: "The DSO-DATA in a RECONFIRM Primary TLV MUST contain exactly one record." "TYPE MUST NOT be the value
 -- ANY (255) and CLASS MUST NOT be the value ANY (255)." "there is no RDLEN field, since the length of the RDATA can be
 -- inferred from DSO-LENGTH". "There is no server response to a RECONFIRM message."
-abbrev pub disputed : ℕ → ℕ → Record
+abbrev pub disputed : ℕ → ℕ → RecordPlaces
 disputed n d =
     record {
       name = place dataStart n;

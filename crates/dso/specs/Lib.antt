@@ -4,5 +4,6 @@ pub mod Header
 pub mod Tlv
 pub mod Judge
 pub mod Steps
+pub mod Parts
 pub mod Response
 pub mod Match

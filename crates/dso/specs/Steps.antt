@@ -5,7 +5,7 @@ use mathlib.Core.List.{List}
 use lib.ListN.{length, drop}
 use lib.Dec.{ltb}
 use Rattle.dso.specs.Header.{headerLength, noRecords}
-use Rattle.dso.specs.Tlv.{Tlv, filled}
+use Rattle.dso.specs.Tlv.{filled}
 use Rattle.dso.specs.Judge.{Opening, Opening.settled, Opening.primary}
 use Rattle.dso.specs.declared.opening.Start.{Start}
 use Rattle.dso.specs.declared.opening.Start.the-variants.{Settled, Primary}

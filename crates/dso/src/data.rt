@@ -1,10 +1,12 @@
-// The data of a first TLV, by its type. `data` is the TLV's data alone: nothing is read past its end.
+// The data of a first TLV, by its type. `s` is the TLV's data alone: nothing is read past its end.
 use crate::judgment::Judgment;
 use crate::judgment::MessageId;
 use crate::judgment::Place;
-use crate::judgment::Question;
-use crate::judgment::Record;
+use crate::judgment::QuestionPlaces;
+use crate::judgment::RecordPlaces;
 use crate::judgment::ReplyCode;
+use crate::number::ANY;
+use crate::number::DATA;
 use wire::NameReading;
 use wire::field16;
 use wire::name_at;
@@ -27,24 +29,24 @@ pub fn subscribe(id: MessageId, s: &[u8]) -> Judgment
     let NameReading::Name(n) = name_at(s, 0) else {
         return Judgment::Reply(id, ReplyCode::FormErr);
     };
-    if s.len() == n + 4 {
-        Judgment::Subscribe(
-            id,
-            Question {
-                name: Place { start: 16, len: n },
-                rtype: Place {
-                    start: 16 + n,
-                    len: 2,
-                },
-                class: Place {
-                    start: 16 + n + 2,
-                    len: 2,
-                },
-            },
-        )
-    } else {
-        Judgment::Reply(id, ReplyCode::FormErr)
+    if s.len() != n + 4 {
+        return Judgment::Reply(id, ReplyCode::FormErr);
     }
+    let at = DATA + n;
+    Judgment::Subscribe(
+        id,
+        QuestionPlaces {
+            name: Place {
+                start: DATA,
+                len: n,
+            },
+            rtype: Place { start: at, len: 2 },
+            class: Place {
+                start: at + 2,
+                len: 2,
+            },
+        },
+    )
 }
 
 pub fn unsubscribe(s: &[u8]) -> Judgment
@@ -63,28 +65,30 @@ pub fn reconfirm(s: &[u8]) -> Judgment
     let NameReading::Name(n) = name_at(s, 0) else {
         return Judgment::Abort;
     };
-    if s.len() < n + 4 {
+    let front = n + 4;
+    if s.len() < front {
         return Judgment::Abort;
     }
-    if field16(s, n) == 255 {
+    if field16(s, n) == ANY {
         return Judgment::Abort;
     }
-    if field16(s, n + 2) == 255 {
+    if field16(s, n + 2) == ANY {
         return Judgment::Abort;
     }
-    Judgment::Reconfirm(Record {
-        name: Place { start: 16, len: n },
-        rtype: Place {
-            start: 16 + n,
-            len: 2,
+    let at = DATA + n;
+    Judgment::Reconfirm(RecordPlaces {
+        name: Place {
+            start: DATA,
+            len: n,
         },
+        rtype: Place { start: at, len: 2 },
         class: Place {
-            start: 16 + n + 2,
+            start: at + 2,
             len: 2,
         },
         rdata: Place {
-            start: 16 + n + 4,
-            len: s.len() - (n + 4),
+            start: at + 4,
+            len: s.len() - front,
         },
     })
 }

@@ -7,6 +7,13 @@ use crate::judgment::Judged;
 use crate::judgment::Judgment;
 use crate::judgment::MessageId;
 use crate::judgment::ReplyCode;
+use crate::number::DATA;
+use crate::number::KEEPALIVE;
+use crate::number::PUSH;
+use crate::number::RECONFIRM;
+use crate::number::RETRY_DELAY;
+use crate::number::SUBSCRIBE;
+use crate::number::UNSUBSCRIBE;
 use crate::opening::Start;
 use crate::opening::opened;
 use wire::field16;
@@ -21,22 +28,22 @@ fn request(id: MessageId, kind: u16, s: &[u8]) -> Judgment
     requires { ⌜ (id .0 ≡ 0 → ⊥) ⌝ }
     ensures { λ r. ⌜ r ≡ byType (id .0) kind (now (s .entry)) ⌝ }
 {
-    if kind == 2 {
+    if kind == RETRY_DELAY {
         return Judgment::Abort;
     }
-    if kind == 0x41 {
+    if kind == PUSH {
         return Judgment::Abort;
     }
-    if kind == 1 {
+    if kind == KEEPALIVE {
         return keepalive(id, s);
     }
-    if kind == 0x40 {
+    if kind == SUBSCRIBE {
         return subscribe(id, s);
     }
-    if kind == 0x42 {
+    if kind == UNSUBSCRIBE {
         return Judgment::Abort;
     }
-    if kind == 0x43 {
+    if kind == RECONFIRM {
         return Judgment::Abort;
     }
     Judgment::Reply(id, ReplyCode::DsoTypeNi)
@@ -46,10 +53,10 @@ fn request(id: MessageId, kind: u16, s: &[u8]) -> Judgment
 fn unidirectional(kind: u16, s: &[u8]) -> Judgment
     ensures { λ r. ⌜ r ≡ byType 0 kind (now (s .entry)) ⌝ }
 {
-    if kind == 0x42 {
+    if kind == UNSUBSCRIBE {
         return unsubscribe(s);
     }
-    if kind == 0x43 {
+    if kind == RECONFIRM {
         return reconfirm(s);
     }
     Judgment::Abort
@@ -71,7 +78,7 @@ fn primary(m: &[u8], kind: u16, len: usize) -> Judgment
     ensures { λ r. ⌜ r ≡ byType (messageId (now (m .entry))) kind (take len (drop 16 (now (m .entry)))) ⌝ }
 {
     let id = MessageId(field16(m, 0));
-    by_type(id, kind, &m[16..16 + len])
+    by_type(id, kind, &m[DATA..DATA + len])
 }
 
 // Steps 1 to 5 of 01, without the tests that need the session. Total: a message of any length is judged.
@@ -85,7 +92,7 @@ pub fn judge(m: &[u8]) -> Judged
         },
         Start::Primary(kind, len) => Judged {
             judgment: primary(m, kind, len),
-            keepalive: kind == 1,
+            keepalive: kind == KEEPALIVE,
         },
     }
 }

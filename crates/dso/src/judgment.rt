@@ -9,15 +9,15 @@ pub struct Place {
     pub len: usize,
 }
 
-// What a SUBSCRIBE asks for.
-pub struct Question {
+// The places of what a SUBSCRIBE asks for.
+pub struct QuestionPlaces {
     pub name: Place,
     pub rtype: Place,
     pub class: Place,
 }
 
-// The record that a RECONFIRM disputes.
-pub struct Record {
+// The places of the record that a RECONFIRM disputes.
+pub struct RecordPlaces {
     pub name: Place,
     pub rtype: Place,
     pub class: Place,
@@ -40,10 +40,10 @@ pub enum Judgment {
     // A reply with an error, to the request of this ID.
     Reply(MessageId, ReplyCode),
     Keepalive(MessageId),
-    Subscribe(MessageId, Question),
+    Subscribe(MessageId, QuestionPlaces),
     // The ID of the subscription to cancel.
     Unsubscribe(MessageId),
-    Reconfirm(Record),
+    Reconfirm(RecordPlaces),
 }
 
 // A judgment, and whether the message's first TLV is a Keepalive and was looked at (step 4 of 01 reached, a malformed

@@ -1,4 +1,6 @@
 // Which records a subscription asks for, and whether octets are a whole name.
+use crate::number::ANY;
+use crate::number::CNAME;
 use wire::NameReading;
 use wire::name_at;
 ghost use mathlib.Core.Path.{_≡_};
@@ -11,7 +13,7 @@ fn asks_class(qclass: u16, class: u16) -> bool
     if qclass == class {
         return true;
     }
-    qclass == 255
+    qclass == ANY
 }
 
 fn asks_type(qtype: u16, rtype: u16) -> bool
@@ -20,10 +22,10 @@ fn asks_type(qtype: u16, rtype: u16) -> bool
     if qtype == rtype {
         return true;
     }
-    if qtype == 255 {
+    if qtype == ANY {
         return true;
     }
-    rtype == 5
+    rtype == CNAME
 }
 
 pub fn asks_for(qtype: u16, qclass: u16, rtype: u16, class: u16) -> bool

@@ -5,6 +5,9 @@ use crate::header::opcode_of;
 use crate::judgment::Judgment;
 use crate::judgment::MessageId;
 use crate::judgment::ReplyCode;
+use crate::number::DATA_LENGTH;
+use crate::number::HEADER;
+use crate::number::OPCODE;
 use crate::tlv::tlvs_fill;
 use wire::field16;
 ghost use mathlib.Core.Path.{_≡_};
@@ -33,8 +36,8 @@ fn well_formed(m: &[u8]) -> bool
     ensures { λ r. ⌜ r ≡ wellFormed (now (m .entry)) ⌝ }
 {
     if no_records(m) {
-        if 12 < m.len() {
-            return tlvs_fill(m, 12);
+        if HEADER < m.len() {
+            return tlvs_fill(m, HEADER);
         }
     }
     false
@@ -44,7 +47,7 @@ fn form(m: &[u8]) -> Start
     ensures { λ r. ⌜ r ≡ startOf (formOf (now (m .entry))) ⌝ }
 {
     if well_formed(m) {
-        Start::Primary(field16(m, 12), field16(m, 14) as usize)
+        Start::Primary(field16(m, HEADER), field16(m, DATA_LENGTH) as usize)
     } else {
         Start::Settled(bad_form(m))
     }
@@ -53,10 +56,10 @@ fn form(m: &[u8]) -> Start
 pub fn opened(m: &[u8]) -> Start
     ensures { λ r. ⌜ r ≡ startOf (opening (now (m .entry))) ⌝ }
 {
-    if m.len() < 12 {
+    if m.len() < HEADER {
         return Start::Settled(Judgment::Abort);
     }
-    if opcode_of(m) != 6 {
+    if opcode_of(m) != OPCODE {
         return Start::Settled(Judgment::NotOurs);
     }
     if is_response(m) {

@@ -1,6 +1,8 @@
 // What the server answers to a request, and its octets.
 use crate::judgment::MessageId;
 use crate::judgment::ReplyCode;
+use crate::number::KEEPALIVE;
+use crate::number::RETRY_DELAY;
 use wire::write_octets;
 use wire::write32;
 ghost use mathlib.Core.Path.{_≡_};
@@ -27,9 +29,9 @@ const GRANTED_INACTIVITY: u32 = 15_000;
 
 const GRANTED_KEEPALIVE: u32 = 60_000;
 
-const RETRY_DELAY: u32 = 300_000;
+const DELAY: u32 = 300_000;
 
-const RETRY_DELAY_NOT_IMPLEMENTED: u32 = 3_600_000;
+const DELAY_NOT_IMPLEMENTED: u32 = 3_600_000;
 
 // What the server grants to every Keepalive request.
 pub fn granted() -> Timeouts
@@ -56,10 +58,10 @@ fn error_delay(code: ReplyCode) -> u32
     ensures { λ r. ⌜ r ≡ retryDelay code ⌝ }
 {
     match code {
-        ReplyCode::FormErr => RETRY_DELAY,
-        ReplyCode::ServFail => RETRY_DELAY,
-        ReplyCode::NotAuth => RETRY_DELAY,
-        ReplyCode::DsoTypeNi => RETRY_DELAY_NOT_IMPLEMENTED,
+        ReplyCode::FormErr => DELAY,
+        ReplyCode::ServFail => DELAY,
+        ReplyCode::NotAuth => DELAY,
+        ReplyCode::DsoTypeNi => DELAY_NOT_IMPLEMENTED,
     }
 }
 
@@ -104,7 +106,7 @@ fn write_error(out: &mut [u8], id: MessageId, code: ReplyCode)
     ensures { λ _. ⌜ now (out .exit) ≡ sets (now (out .entry)) 0 (responseOctets (id .0) (Error code)) ⌝ }
 {
     write_header(out, 20, id, error_flags(code));
-    write_tlv(out, 14, 2, 4);
+    write_tlv(out, 14, RETRY_DELAY, 4);
     write32(out, 18, error_delay(code));
 }
 
@@ -122,7 +124,7 @@ fn write_keepalive(out: &mut [u8], id: MessageId, timeouts: Timeouts)
     ensures { λ _. ⌜ now (out .exit) ≡ sets (now (out .entry)) 0 (responseOctets (id .0) (Keepalive timeouts)) ⌝ }
 {
     write_header(out, 24, id, 0xB000);
-    write_tlv(out, 14, 1, 8);
+    write_tlv(out, 14, KEEPALIVE, 8);
     write_timeouts(out, 18, timeouts);
 }
 

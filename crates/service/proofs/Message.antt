@@ -27,8 +27,8 @@ use Rattle.dso.specs.Response.{
   ReadsAs,
 }
 use Rattle.dso.specs.declared.judgment.MessageId.{MessageId}
-use Rattle.dso.specs.declared.judgment.Record.{Record as Places}
-use Rattle.dso.specs.declared.judgment.Question.{Question}
+use Rattle.dso.specs.declared.judgment.RecordPlaces.{RecordPlaces}
+use Rattle.dso.specs.declared.judgment.QuestionPlaces.{QuestionPlaces}
 use Rattle.dso.specs.declared.judgment.ReplyCode.{ReplyCode}
 use Rattle.dso.specs.declared.judgment.ReplyCode.the-variants.{FormErr, ServFail, NotAuth, DsoTypeNi}
 use Rattle.dso.specs.declared.judgment.Judgment.{Judgment}
@@ -43,7 +43,8 @@ use Rattle.dso.specs.declared.judgment.Judgment.the-variants.{
 }
 use Rattle.dso.specs.declared.response.Response.{Response}
 use Rattle.dso.specs.declared.response.Response.the-variants.{Error, Keepalive as KeepaliveResponse, Subscribed}
-use Rattle.dso.proofs.Judgments.{Meant, Asking, judgment-meant, firstType}
+use Rattle.dso.specs.Parts.{firstType}
+use Rattle.dso.proofs.Meant.{Meant, Asking, judgment-meant}
 use Rattle.dso.proofs.Responses.{response-reads, framed-message}
 use Rattle.zone.specs.Lists.{keep}
 use Rattle.zone.specs.Record.{Record}
@@ -236,7 +237,7 @@ module _ (r : Run) (h : Related r) (t s : ℕ) (m : Bytes) (lent : List ℕ) (q 
   unfolding effectOutcome answerNumber bytesFor
   others-kept x e = quiet-kept notOurs x e (λ (i : ℕ). refl) refl refl
 
-  places-kept : (x : Session) (p : Places) → x .subscriptions ≡ q .session .subscriptions → Leads (places x p)
+  places-kept : (x : Session) (p : RecordPlaces) → x .subscriptions ≡ q .session .subscriptions → Leads (places x p)
   unfolding effectOutcome answerNumber bytesFor
   places-kept x p e = quiet-kept (reconfirm p) x e (λ (i : ℕ). refl) refl refl
 
@@ -359,7 +360,7 @@ module _ (r : Run) (h : Related r) (t s : ℕ) (m : Bytes) (lent : List ℕ) (q 
     id-small = field-lt 2 (m .list) (m .small)
 
     -- The subscription that the server reads in a SUBSCRIBE is the one that the observer reads.
-    same-subscription : (id : MessageId) (k : Question) → Asking (m .list) id k → subscriptionIn (m .list) ≡ asked (m .list) id k
+    same-subscription : (id : MessageId) (k : QuestionPlaces) → Asking (m .list) id k → subscriptionIn (m .list) ≡ asked (m .list) id k
     unfolding subscriptionIn asked
     same-subscription id k a =
         rw (a .named, a .places, a .sameId, field-take-le 2 2 (drop (dataStart + a .size) (m .list)) (omega arith), field-take-le 2 2 (drop (dataStart + a .size + 2) (m .list)) (omega arith))

@@ -12,6 +12,7 @@ use Rattle.zone.specs.declared.BatchFault.the-variants.{TooManyEdits, Unreadabl
 use Rattle.push.specs.Frames.{framesIn}
 use Rattle.push.proofs.Framing.{framesIn-nil}
 use Rattle.dso.specs.Judge.{subscribeType}
+use Rattle.dso.specs.Parts.{firstType}
 use Rattle.service.specs.Answer.{Answer, refused, faultNumber, refusalNumber, answerNumber}
 use Rattle.service.specs.Call.{Call, opens, closes, receives, edits, ticks}
 use Rattle.service.specs.declared.refusal.Refusal.{Refusal}
@@ -33,7 +34,6 @@ use Rattle.service.specs.Observer.{
   heard,
   noted,
   observe,
-  firstType,
   isAccepted,
   afterMessage,
   changeAt,

@@ -2,7 +2,7 @@
 use Prim.Native.Nat.{ℕ}
 use mathlib.Core.Bool.{Bool}
 use mathlib.Core.List.{List}
-use Rattle.dso.specs.declared.judgment.Record.{Record}
+use Rattle.dso.specs.declared.judgment.RecordPlaces.{RecordPlaces}
 use Rattle.zone.specs.declared.BatchFault.{BatchFault}
 use Rattle.zone.specs.declared.BatchFault.the-variants.{TooManyEdits, Unreadable, BadValue, StoreFull}
 use Rattle.service.specs.declared.refusal.Refusal.{Refusal}
@@ -30,7 +30,7 @@ pub data Answer : Type 0 where
   -- The session was forcibly aborted.
   aborted : Answer
   -- RECONFIRM, with the places of its four parts in the message.
-  reconfirm : Record → Answer
+  reconfirm : RecordPlaces → Answer
   refused : Refusal → Answer
 
 unfoldable pub faultNumber : BatchFault → ℕ

@@ -9,9 +9,9 @@ use Rattle.dso.specs.Judge.{judged}
 use Rattle.dso.specs.Response.{responseOctets, granted as grantedTimeouts}
 use Rattle.dso.specs.declared.response.Response.the-variants.{Error, Keepalive as KeepaliveResponse, Subscribed}
 use Rattle.dso.specs.declared.judgment.Place.{Place}
-use Rattle.dso.specs.declared.judgment.Question.{Question}
+use Rattle.dso.specs.declared.judgment.QuestionPlaces.{QuestionPlaces}
 use Rattle.dso.specs.declared.judgment.MessageId.{MessageId}
-use Rattle.dso.specs.declared.judgment.Record.{Record as Places}
+use Rattle.dso.specs.declared.judgment.RecordPlaces.{RecordPlaces}
 use Rattle.dso.specs.declared.judgment.ReplyCode.{ReplyCode}
 use Rattle.dso.specs.declared.judgment.ReplyCode.the-variants.{ServFail, NotAuth}
 use Rattle.dso.specs.declared.judgment.Judgment.{Judgment}
@@ -41,14 +41,14 @@ pub data Effect : Type 0 where
   nothing : Session → Effect
   reply : Session → List ℕ → Effect
   others : Session → Effect
-  places : Session → Places → Effect
+  places : Session → RecordPlaces → Effect
 
 -- The octets at a place of a message.
 abbrev pub partAt : List ℕ → Place → List ℕ
 partAt m p = take (p .len) (drop (p .start) m)
 
 -- The subscription that a SUBSCRIBE asks for.
-unfoldable pub asked : List ℕ → MessageId → Question → Subscription
+unfoldable pub asked : List ℕ → MessageId → QuestionPlaces → Subscription
 asked m id q =
     record {
       id = id .0;

@@ -8,7 +8,8 @@ use lib.ListN.{set, getD, take, drop, replicate}
 use lib.Dec.{eqb}
 use Rattle.wire.specs.Field.{field}
 use Rattle.wire.specs.Name.{nameLength}
-use Rattle.dso.specs.Header.{headerLength, messageId}
+use Rattle.dso.specs.Header.{messageId}
+use Rattle.dso.specs.Parts.{firstType}
 use Rattle.dso.specs.Judge.{subscribeType, dataStart}
 use Rattle.zone.specs.Lists.{keep}
 use Rattle.zone.specs.Record.{Record}
@@ -110,9 +111,6 @@ unsubscribing id c =
       subscriptions = without id (c .subscriptions);
       records = keep (wanted (without id (c .subscriptions))) (c .records);
     }
-
-abbrev pub firstType : List ℕ → ℕ
-firstType m = field 2 (drop headerLength m)
 
 -- "Message of first type 0x0040, reply RCODE 0".
 unfoldable pub isAccepted : List ℕ → List ℕ → Bool

@@ -1,11 +1,11 @@
 -- Laws of the three answers: none is ever 0, and the third from the second.
 -- Assumes nothing.
 use Prim.Native.Nat.{ℕ}
-use mathlib.Core.Path.{_≡_, refl, sym, ap, _∙_}
+use mathlib.Core.Path.{_≡_, refl, sym, _∙_}
 use mathlib.Core.Bool.{Bool, true, false, cond, _&&_}
 use mathlib.Core.List.{List}
 use lib.ListN.{length}
-use lib.Dec.{ltb, eqb}
+use lib.Dec.{ltb}
 use borrow.Author.Tests.{eqb-false}
 use Rattle.wire.specs.Name.{isName, sameName}
 use Rattle.dso.specs.Judge.{judgment}

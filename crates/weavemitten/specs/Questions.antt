@@ -12,7 +12,7 @@ use Rattle.dso.specs.declared.judgment.ReplyCode.the-variants.{FormErr, ServFai
 use Rattle.dso.specs.declared.judgment.Judgment.{Judgment}
 use Rattle.dso.specs.declared.judgment.Judgment.the-variants.{NotOurs, Abort, Reply, Keepalive, Subscribe, Unsubscribe, Reconfirm}
 
--- "42 FORMERR, 43 DSOTYPENI". A message's bytes alone lead to no other code (`judgment-answers` of dso).
+-- "42 FORMERR, 43 DSOTYPENI". A message's bytes alone lead to no other code (`judgment-sound` of dso).
 abbrev pub replyKind : ReplyCode → ℕ
 replyKind FormErr = 42
 replyKind ServFail = 42

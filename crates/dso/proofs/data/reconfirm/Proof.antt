@@ -22,12 +22,14 @@ returns : tie.Need-returns
 unfolding reconfirm
 returns c = rw (nameAt-none _ _ 0 (c .before .before .name-at .ensures) (c .enum-told .given .1))
 
-add-if1 : tie.Need-add-if1
-add-if1 c = omega (arith, name-max _ _ _ (c .before .before .before .name-at .ensures) (c .before .n .given .1))
+add-front : tie.Need-add-front
+add-front c = omega (arith, name-max _ _ _ (c .before .before .before .name-at .ensures) (c .before .n .given .1))
 
 returns-2 : tie.Need-returns-2
 unfolding reconfirm
-returns-2 c = rw (nameAt-name _ _ 0 _ (c .before .before .before .before .name-at .ensures) (c .before .before .n .given .1), lt-ltb _ _ (c .if1 .taken))
+returns-2 c =
+    let at-name = c .before .before in
+    rw (nameAt-name _ _ 0 _ (at-name .before .before .name-at .ensures) (at-name .n .given .1), lt-ltb _ _ (c .if1 .taken))
 
 field16-requires : tie.Need-field16-requires
 field16-requires c κs = search needs
@@ -39,7 +41,7 @@ returns-3 c =
     rw (nameAt-name _ _ 0 _ (at-name .before .before .name-at .ensures) (at-name .n .given .1), le-ltb _ _ (c .before .before .if1 .left), is 255 (c .before .field16 .ensures) (c .if2 .taken))
 
 add-field16 : tie.Need-add-field16
-add-field16 c = omega (arith, name-max _ _ _ (c .before .before .before .before .before .before .name-at .ensures) (c .before .before .before .before .n .given .1))
+add-field16 c = search needs
 
 field16-requires-2 : tie.Need-field16-requires-2
 field16-requires-2 c κs = search needs
@@ -50,26 +52,17 @@ returns-4 c =
     let at-name = c .before .before .before .before .before .before in
     rw (nameAt-name _ _ 0 _ (at-name .before .before .name-at .ensures) (at-name .n .given .1), le-ltb _ _ (c .before .before .before .before .if1 .left), isnt 255 (c .before .before .before .field16 .ensures) (c .before .before .if2 .left), is 255 (c .before .field162 .ensures) (c .if3 .taken))
 
-add-t5 : tie.Need-add-t5
-add-t5 c = omega (arith, name-max _ _ _ (c .before .before .before .before .before .before .before .before .name-at .ensures) (c .before .before .before .before .before .before .n .given .1))
+add-at : tie.Need-add-at
+add-at c = search needs
 
-add-t4 : tie.Need-add-t4
-add-t4 c = omega (arith, name-max _ _ _ (c .before .before .before .before .before .before .before .before .name-at .ensures) (c .before .before .before .before .before .before .n .given .1))
-
-add-t10 : tie.Need-add-t10
-add-t10 c = omega (arith, name-max _ _ _ (c .before .before .before .before .before .before .before .before .name-at .ensures) (c .before .before .before .before .before .before .n .given .1))
+add-t6 : tie.Need-add-t6
+add-t6 c = search needs
 
 add-t12 : tie.Need-add-t12
-add-t12 c = omega (arith, name-max _ _ _ (c .before .before .before .before .before .before .before .before .name-at .ensures) (c .before .before .before .before .before .before .n .given .1))
+add-t12 c = search needs
 
-add-t13 : tie.Need-add-t13
-add-t13 c = omega (arith, name-max _ _ _ (c .before .before .before .before .before .before .before .before .name-at .ensures) (c .before .before .before .before .before .before .n .given .1))
-
-add-t15 : tie.Need-add-t15
-add-t15 c = omega (arith, name-max _ _ _ (c .before .before .before .before .before .before .before .before .name-at .ensures) (c .before .before .before .before .before .before .n .given .1))
-
-sub-t16 : tie.Need-sub-t16
-sub-t16 c = search needs
+sub-t14 : tie.Need-sub-t14
+sub-t14 c = search needs
 
 returns-5 : tie.Need-returns-5
 unfolding reconfirm
@@ -85,18 +78,15 @@ reconfirm-spec =
     enum-known-n
     enum-told
     returns
-    add-if1
+    add-front
     returns-2
     field16-requires
     returns-3
     add-field16
     field16-requires-2
     returns-4
-    add-t5
-    add-t4
-    add-t10
+    add-at
+    add-t6
     add-t12
-    add-t13
-    add-t15
-    sub-t16
+    sub-t14
     returns-5)

@@ -25,22 +25,19 @@ returns c = rw (nameAt-none _ _ 0 (c .before .before .name-at .ensures) (c .enum
 add-if1 : tie.Need-add-if1
 add-if1 c = omega (arith, name-max _ _ _ (c .before .before .before .name-at .ensures) (c .before .n .given .1))
 
-add-t11 : tie.Need-add-t11
-add-t11 c = omega (arith, name-max _ _ _ (c .before .before .before .before .name-at .ensures) (c .before .before .n .given .1))
-
-add-t13 : tie.Need-add-t13
-add-t13 c = omega (arith, name-max _ _ _ (c .before .before .before .before .name-at .ensures) (c .before .before .n .given .1))
-
-add-t14 : tie.Need-add-t14
-add-t14 c = omega (arith, name-max _ _ _ (c .before .before .before .before .name-at .ensures) (c .before .before .n .given .1))
-
 returns-2 : tie.Need-returns-2
 unfolding subscribe
-returns-2 c = rw (nameAt-name _ _ 0 _ (c .before .before .before .before .name-at .ensures) (c .before .before .n .given .1), eq-eqb _ _ (c .if1 .taken))
+returns-2 c = rw (nameAt-name _ _ 0 _ (c .before .before .before .before .name-at .ensures) (c .before .before .n .given .1), ne-eqb _ _ (c .if1 .taken))
+
+add-at : tie.Need-add-at
+add-at c = search needs
+
+add-t7 : tie.Need-add-t7
+add-t7 c = search needs
 
 returns-3 : tie.Need-returns-3
 unfolding subscribe
-returns-3 c = rw (nameAt-name _ _ 0 _ (c .before .before .before .before .name-at .ensures) (c .before .before .n .given .1), ne-eqb _ _ (c .if1 .left))
+returns-3 c = rw (nameAt-name _ _ 0 _ (c .before .before .before .before .name-at .ensures) (c .before .before .n .given .1), eq-eqb _ _ (c .if1 .left))
 
 pub subscribe-spec : {M : Type 1} → statement M
 subscribe-spec =
@@ -51,8 +48,7 @@ subscribe-spec =
     enum-told
     returns
     add-if1
-    add-t11
-    add-t13
-    add-t14
     returns-2
+    add-at
+    add-t7
     returns-3)
