@@ -1,6 +1,6 @@
 // What a call gives: the server's numbers as they are then, and the answer.
 use crate::state::Server;
-use dso::Record;
+use dso::RecordPlaces;
 use service::Refusal;
 use service::SessionNumber;
 
@@ -34,7 +34,7 @@ pub enum Answer {
     // The session was forcibly aborted.
     Aborted,
     // RECONFIRM, with the places of its four parts in the message.
-    Reconfirm(Record),
+    Reconfirm(RecordPlaces),
     // Refused: nothing changed.
     Refused(Refusal),
 }
