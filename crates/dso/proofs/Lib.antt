@@ -4,4 +4,4 @@ pub mod Openings
 pub mod Reading
 pub mod Responses
 pub mod Tlvs
-pub mod Judgments
+pub mod Meant

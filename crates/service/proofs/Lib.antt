@@ -1,4 +1,5 @@
--- Demand 3 over whole lists of calls: what each call keeps, and the theorem.
+-- Demand 3 over whole lists of calls: what each call keeps, and the theorem. Then the numbers of the answers, and the bench
+-- examples.
 pub mod Outputs
 pub mod Related
 pub mod Quiet
@@ -8,3 +9,6 @@ pub mod Batch
 pub mod Replies
 pub mod Message
 pub mod Theorem
+pub mod Numbers
+pub mod Examples
+pub mod Bench

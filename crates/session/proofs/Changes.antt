@@ -26,7 +26,8 @@ use Rattle.session.proofs.Table.{length-subscriptionsOf, subscriptionsO
 -- ---- writes in a row
 
 -- What is written behind what was written.
-pub written-then : (o p q : List ℕ) (at b : ℕ) (u v : List ℕ) → p ≡ sets o at u → q ≡ sets p b v → at + length u ≡ b → q ≡ sets o at (u ++ v)
+pub written-then : (o p q : List ℕ) (at b : ℕ) (u v : List ℕ) → p ≡ sets o at u → q ≡ sets p b v → at + length u ≡ b
+    → q ≡ sets o at (u ++ v)
 written-then o p q at b u v e f h =
     f ∙ ap₂ (λ (l : List ℕ) (k : ℕ). sets l k v) e (sym h) ∙ sym (sets-append o at u v)
 
@@ -57,8 +58,8 @@ block-written o p q name at id rrtype rrclass e f =
 
 -- ---- a block read back
 
-same : (s : Subscription) (id : ℕ) (owner : List ℕ) (rrtype rrclass : ℕ) → id ≡ s .id → owner ≡ s .owner → rrtype ≡ s .rrtype → rrclass ≡ s .rrclass
-    → subscription id owner rrtype rrclass ≡ s
+same : (s : Subscription) (id : ℕ) (owner : List ℕ) (rrtype rrclass : ℕ) → id ≡ s .id → owner ≡ s .owner
+    → rrtype ≡ s .rrtype → rrclass ≡ s .rrclass → subscription id owner rrtype rrclass ≡ s
 same s id owner rrtype rrclass e f g h =
     ap₂ (λ (x : ℕ) (y : List ℕ). subscription x y rrtype rrclass) e f ∙ ap₂ (λ (x y : ℕ). subscription (s .id) (s .owner) x y) g h
 
@@ -206,7 +207,8 @@ module _ (id : ℕ) (subs : List Subscription) (n : ℕ) (a : List ℕ) (i : ℕ
           ∙ ap (λ (k : ℕ). take k all ++ without id (drop k all)) (sym (add-one i));
     }
 
-    pub swept-gone : r ≡ true → (m : ℕ) (b : List ℕ) → m ≡ n - 1 → blocks blockSize (n - 1) b ≡ cut i (blocks blockSize n a) → Swept id subs m b i
+    pub swept-gone : r ≡ true → (m : ℕ) (b : List ℕ) → m ≡ n - 1 → blocks blockSize (n - 1) b ≡ cut i (blocks blockSize n a)
+        → Swept id subs m b i
     swept-gone g m b e k =
         let left : subscriptionsOf m b ≡ cut i all =
         subscriptionsOf-few m b (omega (arith, d .many)) ∙ ap (λ (j : ℕ). map subOf (blocks blockSize j b)) e ∙ ap (map subOf) k

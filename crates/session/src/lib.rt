@@ -8,6 +8,7 @@ pub use clocks::granted;
 pub use clocks::received;
 pub use clocks::started;
 pub use subscriptions::AREA;
+pub use subscriptions::Area;
 pub use subscriptions::SUBSCRIPTIONS;
 pub use subscriptions::append;
 pub use subscriptions::asks_already;

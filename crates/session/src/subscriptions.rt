@@ -13,7 +13,7 @@ ghost use Rattle.zone.specs.Match.{matches as matching, wanted as wantedBy};
 ghost use Rattle.session.specs.Subscriptions.{maxSubscriptions, usesId, sameQuestion, asksAlready, isFull, without};
 ghost use Rattle.session.specs.Table.{blockSize, subOf, subOctets, subscriptionsOf, subscription, recordAsked, appended};
 
-// 01: "Subscriptions: 16 a session".
+// 01: "Subscriptions: 16 a session". The limit is stated here and in the definitions.
 pub const SUBSCRIPTIONS: usize = 16;
 
 const MAX_NAME: usize = 255;
@@ -21,6 +21,9 @@ const MAX_NAME: usize = 255;
 const BLOCK: usize = OWNER + MAX_NAME;
 
 pub const AREA: usize = SUBSCRIPTIONS * BLOCK;
+
+// A session's lent memory.
+pub type Area = [u8; AREA];
 
 // Where a block has its parts.
 const ID: usize = 0;
@@ -87,6 +90,7 @@ fn live(count: usize) -> usize
     }
 }
 
+// Whether there are as many as there may be.
 pub fn is_full(count: usize) -> bool
     ensures { λ r. ⌜ ((area : List ℕ) → r ≡ isFull (subscriptionsOf count area)) ⌝ }
 {
@@ -94,7 +98,7 @@ pub fn is_full(count: usize) -> bool
 }
 
 // Whether a message ID is held by one of them.
-pub fn uses_id(area: &[u8; AREA], count: usize, id: u16) -> bool
+pub fn uses_id(area: &Area, count: usize, id: u16) -> bool
     ensures { λ r. ⌜ r ≡ usesId id (subscriptionsOf count (now (area .entry))) ⌝ }
 {
     let n = live(count);
@@ -109,7 +113,7 @@ pub fn uses_id(area: &[u8; AREA], count: usize, id: u16) -> bool
 }
 
 // Whether one of them has the same name, type and class, whatever its ID.
-pub fn asks_already(area: &[u8; AREA], count: usize, name: &[u8], rrtype: u16, rrclass: u16) -> bool
+pub fn asks_already(area: &Area, count: usize, name: &[u8], rrtype: u16, rrclass: u16) -> bool
     ensures { λ r. ⌜ r ≡ asksAlready (subscription 0 (now (name .entry)) rrtype rrclass) (subscriptionsOf count (now (area .entry))) ⌝ }
 {
     let n = live(count);
@@ -124,7 +128,7 @@ pub fn asks_already(area: &[u8; AREA], count: usize, name: &[u8], rrtype: u16, r
 }
 
 // Whether one of them matches a record of this name, type and class.
-pub fn wanted(area: &[u8; AREA], count: usize, name: &[u8], rrtype: u16, rrclass: u16) -> bool
+pub fn wanted(area: &Area, count: usize, name: &[u8], rrtype: u16, rrclass: u16) -> bool
     ensures { λ r. ⌜ r ≡ wantedBy (subscriptionsOf count (now (area .entry))) (recordAsked (now (name .entry)) rrtype rrclass) ⌝ }
 {
     let n = live(count);
@@ -168,7 +172,7 @@ fn write_block(area: &mut [u8], at: usize, id: u16, name: &[u8], rrtype: u16, rr
 
 // One more at the end. How many there are then: as many as before where there is no room for it, or no name is so long.
 pub fn append(
-    area: &mut [u8; AREA],
+    area: &mut Area,
     count: usize,
     id: u16,
     name: &[u8],
@@ -190,7 +194,7 @@ pub fn append(
 // ---- fewer
 
 // Block i of n is gone: those behind it move down by one. How many are left.
-fn close_gap(area: &mut [u8; AREA], i: usize, n: usize) -> usize
+fn close_gap(area: &mut Area, i: usize, n: usize) -> usize
     requires { ⌜ (i < n) × (n ≤ maxSubscriptions) ⌝ }
     ensures { λ r. ⌜ (r ≡ n - 1) × (blocks blockSize (n - 1) (now (area .exit)) ≡ cut i (blocks blockSize n (now (area .entry)))) ⌝ }
 {
@@ -199,8 +203,8 @@ fn close_gap(area: &mut [u8; AREA], i: usize, n: usize) -> usize
     n - 1
 }
 
-// Without the one of an ID, if there is one. How many there are then.
-pub fn remove(area: &mut [u8; AREA], count: usize, id: u16) -> usize
+// Without those of an ID: in a run there is at most one. How many are left.
+pub fn remove(area: &mut Area, count: usize, id: u16) -> usize
     ensures { λ r. ⌜ subscriptionsOf r (now (area .exit)) ≡ without id (subscriptionsOf count (now (area .entry))) ⌝ }
 {
     let mut n = live(count);

@@ -8,3 +8,9 @@ pub mod Goods
 pub mod Batches
 pub mod Edits
 pub mod Memory
+pub mod Written
+pub mod Updates
+pub mod Filled
+pub mod Applies
+pub mod Readings
+pub mod Steps

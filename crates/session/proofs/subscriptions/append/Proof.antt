@@ -7,7 +7,8 @@ use Rattle.session.proofs.subscriptions.append.Tie as tie
 
 returns-3 : tie.Need-returns-3
 returns-3 c =
-    append-written _ _ _ _ (record { id-fits = omega arith; type-fits = omega arith; class-fits = omega arith }) (omega arith) (omega arith) (omega arith) (c .write-block .ensures)
+    append-written _ _ _ _ (record { id-fits = omega arith; type-fits = omega arith; class-fits = omega arith }) (omega arith)
+    (omega arith) (omega arith) (c .write-block .ensures)
 
 pub append-spec : {M : Type 1} → statement M
 append-spec =

@@ -16,8 +16,11 @@ abbrev μ-loop : tie.MeasureT-loop
 
 loop-again : tie.Need-loop-again Inv-loop μ-loop
 loop-again c =
-    let p = c .before .before .before .before in
-    swept-gone _ _ _ _ _ (p .before .before .before .before .loop .inv) (omega arith) _ (p .part .ensures) _ (c .before .before .before .has-id .ensures) (c .before .before .if1 .taken) _ _ (c .close-gap .ensures .0) (c .close-gap .ensures .1)
+    let tested = c .before .before .before in
+    let block = tested .before in
+    let gone = c .close-gap .ensures in
+    swept-gone _ _ _ _ _ (block .before .before .before .before .loop .inv) (omega arith) _ (block .part .ensures) _ (tested .has-id .ensures)
+    (c .before .before .if1 .taken) _ _ (gone .0) (gone .1)
 
 pub remove-spec : {M : Type 1} → statement M
 remove-spec =

@@ -1,0 +1,214 @@
+-- Bench examples 1 to 10 of 01, and one of spelling, settled by one proof: each is computed with the definitions.
+use Prim.Native.Nat.{ℕ, _-_}
+use mathlib.Core.Bool.{true, false}
+use mathlib.Core.List.{List, [], _∷_, _++_, map}
+use mathlib.Core.Option.{Option, some}
+use mathlib.Core.Path.{_≡_, refl}
+use lib.ListN.{length, replicate}
+use Rattle.wire.specs.Field.{octets, field}
+use Rattle.wire.specs.Name.{labels, nameLength, isName, lower, sameOctets, sameName, endsIn, within}
+use Rattle.dso.specs.Header.{messageId, flags, isResponse, opcode, noRecords}
+use Rattle.dso.specs.Tlv.{tlvs, tlvsFrom}
+use Rattle.dso.specs.Judge.{
+  badForm,
+  formOf,
+  opening,
+  byType,
+  judgment,
+  isKeepalive,
+  judged,
+  subscribe as judgeSubscribe,
+}
+use Rattle.dso.specs.Response.{header, tlvOctets, tlvsOctets, framed, response, responseOctets}
+use Rattle.dso.specs.Match.{asksFor, asksType, asksClass}
+use Rattle.zone.specs.Record.{Record, sameKey}
+use Rattle.zone.specs.Store.{find, held, put, remove, withTtl}
+use Rattle.zone.specs.Layout.{size, recordOctets, readAfter, readRecord}
+use Rattle.zone.specs.Match.{matchesKey}
+use Rattle.zone.specs.Batch.{allowed, overfull, edit, edited, batchOf}
+use Rattle.push.specs.Change.{
+  Change,
+  addition,
+  removal,
+  single,
+  rrset,
+  allTypes,
+  covers,
+  isTrue,
+  fieldsOf,
+}
+use Rattle.push.specs.List.{widest, alike, chosen, firsts, removals, additions, changes}
+use Rattle.push.specs.Octets.{changesOctets, pushMessage, pushOctets, pushOf, notified, changesIn}
+use Rattle.push.specs.Frames.{frameOf, framesIn, isUnidirectional, pushIn}
+use Rattle.session.specs.Clocks.{started, received, expired}
+use Rattle.session.specs.Subscriptions.{usesId, asksAlready, isFull}
+use Rattle.service.specs.State.{free, slotAt, fresh, lowestFree}
+use Rattle.service.specs.Answer.{opened, done, sent, ended}
+use Rattle.service.specs.Checks.{refusalOf, leastOutput}
+use Rattle.service.specs.Message.{asked, subscribed, answered, messageEffect}
+use Rattle.service.specs.Call.{
+  Call,
+  Outcome,
+  opens,
+  ticks,
+  running,
+  start,
+  written,
+  openOutcome,
+  effectOutcome,
+  messageOutcome,
+  batchOutcome,
+  tickOutcome,
+  passed,
+  outcome,
+}
+use Rattle.service.specs.Reader.{bytesFor, pushesIn}
+use Rattle.service.proofs.Examples.{
+  zone,
+  under,
+  host,
+  hostInCapitals,
+  typeA,
+  typeTxt,
+  typeAaaa,
+  typeSrv,
+  typeAny,
+  classIn,
+  address,
+  service,
+  text,
+  address6,
+  bytes,
+  subscribe,
+  puts,
+  deletes,
+  message,
+  batch,
+  outcomes,
+  after,
+  answers,
+  server,
+  ready,
+  watched,
+  sent0,
+  replyFlags,
+  pushed,
+  subscriptionsOf,
+}
+
+-- The octets of the run in 01, "The replay program".
+abbrev pub paperBatch : List ℕ
+paperBatch = octets 30 0x01610473686f70076578616d706c650000010001000000780004c0000201
+
+abbrev pub paperMessage : List ℕ
+paperMessage = octets 36 0x1234300000000000000000000040001401610473686f70076578616d706c650000010001
+
+abbrev pub paperReply : List ℕ
+paperReply = octets 62 0x000c1234b0000000000000000000002e0000300000000000000000000041001e01610473686f70076578616d706c650000010001000000780004c0000201
+
+-- A name of 206 octets: three labels of 63 in front of shop.example.
+abbrev pub long : List ℕ
+long = under 63 (under 63 (under 63 zone))
+
+-- The flags of the reply to a SUBSCRIBE for a name.
+abbrev pub flagsFor : List ℕ → ℕ
+flagsFor name = replyFlags (outcome ready (message (subscribe 1 name typeA)))
+
+-- A SUBSCRIBE whose ID and type are one number, so that no two of them are the same question.
+abbrev pub numbered : ℕ → Call
+numbered n = message (subscribe n host n)
+
+abbrev pub oneTo17 : List ℕ
+oneTo17 = 1 ∷ 2 ∷ 3 ∷ 4 ∷ 5 ∷ 6 ∷ 7 ∷ 8 ∷ 9 ∷ 10 ∷ 11 ∷ 12 ∷ 13 ∷ 14 ∷ 15 ∷ 16 ∷ 17 ∷ []
+
+-- What edits come to where records are held, and a client asked for all of a.shop.example; and what it is told.
+abbrev pub edited0 : List Record → List ℕ → Outcome
+edited0 held edits = outcome (watched held (subscribe 1 host typeAny ∷ [])) (batch edits)
+
+abbrev pub told0 : List Record → List ℕ → Option (List (List Change))
+told0 held edits = pushed (edited0 held edits)
+
+-- A record in capitals.
+abbrev pub inCapitals : Record → Record
+inCapitals r =
+    record { owner = hostInCapitals; rrtype = r .rrtype; rrclass = r .rrclass; ttl = r .ttl; rdata = r .rdata }
+
+-- What it comes to that a held record is put with a TTL in capitals, where a client asked in capitals.
+abbrev pub capitals0 : ℕ → Outcome
+capitals0 ttl =
+    outcome (watched (address ∷ text ∷ []) (subscribe 1 hostInCapitals typeAny ∷ []))
+    (batch (puts (inCapitals (withTtl ttl address) ∷ [])))
+
+pub record Bench : Type 0 where
+  -- "Zone shop.example."
+  pub starts : start zone ≡ running server
+  -- 1. "That run": its answers; and all of the output slice after the message, whose count is 62.
+  pub run-answers : answers (outcomes server (opens 1000 ∷ batch paperBatch ∷ message paperMessage ∷ []))
+      ≡ opened 0 ∷ done ∷ sent (62 ∷ 0 ∷ 0 ∷ 0 ∷ []) ∷ []
+  pub run-octets : outcome (after server (opens 1000 ∷ batch paperBatch ∷ [])) (message paperMessage) .output
+      ≡ paperReply ++ replicate (leastOutput - 62) 0
+  -- 2. "Label of 63 read, 64 FORMERR."
+  pub label-63 : flagsFor (under 63 zone) ≡ 0xB000
+  pub label-64 : flagsFor (under 64 zone) ≡ 0xB001
+  -- 3. "255-octet name read, 256 refused."
+  pub length-255 : length (under 48 long) ≡ 255
+  pub name-255 : flagsFor (under 48 long) ≡ 0xB000
+  pub length-256 : length (under 49 long) ≡ 256
+  pub name-256 : flagsFor (under 49 long) ≡ 0xB001
+  -- 4. "16th subscription accepted, 17th SERVFAIL." The refused one isn't live.
+  pub seventeenth : map replyFlags (outcomes ready (map numbered oneTo17)) ≡ replicate 16 0xB000 ++ (0xB002 ∷ [])
+  pub sixteen-live : length (subscriptionsOf (slotAt (after ready (map numbered oneTo17)) 0)) ≡ 16
+  -- 5. "Idle from 1,000: tick 30,999 stays, 31,000 ends."
+  pub idle-stays : outcome ready (ticks 30999) .answer ≡ ended (false ∷ false ∷ false ∷ false ∷ [])
+  pub idle-ends : outcome ready (ticks 31000) .answer ≡ ended (true ∷ false ∷ false ∷ false ∷ [])
+  pub idle-freed : slotAt (outcome ready (ticks 31000) .next) 0 ≡ free
+  -- 6. "SRV and TXT leave, nothing remains: one all-types notice." Its octets too: a PUSH, type 255, TTL 0xFFFFFFFE, RDLEN 0.
+  pub all-types : told0 (service ∷ text ∷ []) (deletes (service ∷ text ∷ [])) ≡ some ((removal (allTypes host classIn) ∷ []) ∷ [])
+  pub all-types-octets : sent0 (edited0 (service ∷ text ∷ []) (deletes (service ∷ text ∷ [])))
+      ≡ octets 44 0x002a0000300000000000000000000041001a01610473686f70076578616d706c650000ff0001fffffffe0000
+  -- 7. "The same with A kept: two RRset notices."
+  pub two-rrsets : told0 (address ∷ service ∷ text ∷ []) (deletes (service ∷ text ∷ []))
+      ≡ some ((removal (rrset host typeSrv classIn) ∷ removal (rrset host typeTxt classIn) ∷ []) ∷ [])
+  -- 8. "Three AAAA, two leave: two single notices."
+  pub two-singles : told0 (address6 1 ∷ address6 2 ∷ address6 3 ∷ []) (deletes (address6 1 ∷ address6 3 ∷ []))
+      ≡ some ((removal (single host typeAaaa classIn (octets 16 1)) ∷ removal (single host typeAaaa classIn (octets 16 3)) ∷ []) ∷ [])
+  -- 9. "Delete and put the same record and TTL: no PUSH."
+  pub put-back : edited0 (address ∷ []) (deletes (address ∷ []) ++ puts (address ∷ [])) .answer ≡ done
+  -- 10. "Matched by A and by ANY: one add."
+  pub one-add : pushed (outcome (watched [] (subscribe 1 host typeA ∷ subscribe 2 host typeAny ∷ [])) (batch (puts (address ∷ []))))
+      ≡ some ((addition address ∷ []) ∷ [])
+  -- "spelling is never a change": the held record put in capitals with TTL 60 keeps its place and spelling, and a client that
+  -- asked in capitals is told one add; the same record and TTL in capitals is no change.
+  pub spelled-store : capitals0 60 .next .store
+      ≡ withTtl 60 address ∷ text ∷ []
+  pub spelled-push : pushed (capitals0 60) ≡ some ((addition (withTtl 60 address) ∷ []) ∷ [])
+  pub spelled-only : capitals0 120 .answer ≡ done
+
+pub bench : Bench
+unfolding octets field labels nameLength isName lower sameOctets sameName endsIn within messageId flags isResponse opcode noRecords tlvs tlvsFrom badForm formOf opening byType judgment isKeepalive judged judgeSubscribe header tlvOctets tlvsOctets framed response responseOctets asksFor asksType asksClass sameKey find held put remove size recordOctets readAfter readRecord matchesKey allowed overfull edit edited batchOf covers isTrue fieldsOf widest alike chosen firsts removals additions changes changesOctets pushMessage pushOctets pushOf notified changesIn frameOf framesIn isUnidirectional pushIn started received expired usesId asksAlready isFull fresh lowestFree refusalOf asked subscribed answered messageEffect start written openOutcome effectOutcome messageOutcome batchOutcome tickOutcome passed outcome bytesFor pushesIn bytes puts outcomes after
+bench =
+    record {
+      starts = refl;
+      run-answers = refl;
+      run-octets = refl;
+      label-63 = refl;
+      label-64 = refl;
+      length-255 = refl;
+      name-255 = refl;
+      length-256 = refl;
+      name-256 = refl;
+      seventeenth = refl;
+      sixteen-live = refl;
+      idle-stays = refl;
+      idle-ends = refl;
+      idle-freed = refl;
+      all-types = refl;
+      all-types-octets = refl;
+      two-rrsets = refl;
+      two-singles = refl;
+      put-back = refl;
+      one-add = refl;
+      spelled-store = refl;
+      spelled-push = refl;
+      spelled-only = refl;
+    }

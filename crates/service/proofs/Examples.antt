@@ -1,0 +1,156 @@
+-- What the bench examples are made of: names, records, messages, calls, and runs of a server for shop.example.
+use Prim.Native.Nat.{ℕ, _%_}
+use mathlib.Core.Bool.{Bool, true, _&&_}
+use mathlib.Core.List.{List, [], _∷_, _++_, map}
+use mathlib.Core.Option.{Option}
+use mathlib.Core.Path.{_≡_, refl, ap₂}
+use native.Mathlib.Nat.{mod-lt}
+use native.Mathlib.Omega.{arith}
+use lib.ListN.{drop, replicate}
+use lib.Pow.{areBytes}
+use borrow.Author.Tests.{lt-ltb}
+use Rattle.wire.specs.Field.{octets}
+use Rattle.dso.specs.Header.{flags}
+use Rattle.dso.specs.Judge.{subscribeType}
+use Rattle.dso.specs.Response.{header, tlvsOctets}
+use Rattle.zone.specs.Record.{Record}
+use Rattle.zone.specs.Match.{Subscription}
+use Rattle.zone.specs.Store.{withTtl}
+use Rattle.zone.specs.Batch.{removeTtl}
+use Rattle.zone.specs.Layout.{recordOctets}
+use Rattle.push.specs.Change.{Change}
+use Rattle.push.specs.Octets.{unidirectionalFlags}
+use Rattle.service.specs.State.{State, Slot, free, live, fresh}
+use Rattle.service.specs.Answer.{Answer}
+use Rattle.service.specs.Checks.{leastOutput}
+use Rattle.service.specs.Call.{Bytes, Call, opens, receives, edits, Outcome, outcome}
+use Rattle.service.specs.Reader.{bytesFor, pushesIn}
+
+-- ---- names, types and records
+
+-- shop.example
+abbrev pub zone : List ℕ
+zone = octets 14 0x0473686f70076578616d706c6500
+
+-- A label of n octets "a" in front of a name.
+abbrev pub under : ℕ → List ℕ → List ℕ
+under n name = n ∷ replicate n 0x61 ++ name
+
+-- a.shop.example, and the same name as A.SHOP.example.
+abbrev pub host : List ℕ
+host = under 1 zone
+
+abbrev pub hostInCapitals : List ℕ
+hostInCapitals = octets 16 0x01410453484f50076578616d706c6500
+
+abbrev pub typeA : ℕ
+typeA = 1
+
+abbrev pub typeTxt : ℕ
+typeTxt = 16
+
+abbrev pub typeAaaa : ℕ
+typeAaaa = 28
+
+abbrev pub typeSrv : ℕ
+typeSrv = 33
+
+abbrev pub typeAny : ℕ
+typeAny = 255
+
+abbrev pub classIn : ℕ
+classIn = 1
+
+-- A record of a.shop.example, with TTL 120.
+abbrev pub rr : ℕ → List ℕ → Record
+rr rrtype rdata = record { owner = host; rrtype = rrtype; rrclass = classIn; ttl = 120; rdata = rdata }
+
+abbrev pub address : Record
+address = rr typeA (octets 4 0xc0000201)
+
+abbrev pub service : Record
+service = rr typeSrv (octets 6 0 ++ host)
+
+abbrev pub text : Record
+text = rr typeTxt (0 ∷ [])
+
+abbrev pub address6 : ℕ → Record
+address6 n = rr typeAaaa (octets 16 n)
+
+-- ---- octets of calls
+
+-- Octets as a call takes them: of a number over 255 its low eight bits.
+pub low-small : (l : List ℕ) → areBytes (map (λ (b : ℕ). b % 256) l) ≡ true
+low-small [] = refl
+low-small (b ∷ l) =
+    ap₂ (λ (x y : Bool). x && y) (lt-ltb (b % 256) 256 (mod-lt b {m = 256} (omega arith))) (low-small l)
+
+unfoldable pub bytes : List ℕ → Bytes
+bytes l = record { list = map (λ (b : ℕ). b % 256) l; small = low-small l }
+
+-- A SUBSCRIBE message: an ID, a name, a type.
+abbrev pub subscribe : ℕ → List ℕ → ℕ → List ℕ
+subscribe id name rrtype =
+    header id unidirectionalFlags
+    ++ tlvsOctets (record { kind = subscribeType; value = name ++ (octets 2 rrtype ++ octets 2 classIn) } ∷ [])
+
+-- Edits: each record is put; each is deleted.
+unfoldable pub puts : List Record → List ℕ
+puts [] = []
+puts (r ∷ l) = recordOctets r ++ puts l
+
+abbrev pub deletes : List Record → List ℕ
+deletes l = puts (map (withTtl removeTtl) l)
+
+-- ---- calls and runs
+
+-- The output slice as it is lent.
+abbrev pub lent : List ℕ
+lent = replicate leastOutput 0
+
+-- Session 0's message, and a batch, at 1,000.
+abbrev pub message : List ℕ → Call
+message m = receives 1000 0 (bytes m) lent
+
+abbrev pub batch : List ℕ → Call
+batch l = edits 1000 (bytes l) lent
+
+-- The outcomes of calls one behind the other.
+unfoldable pub outcomes : State → List Call → List Outcome
+outcomes st [] = []
+outcomes st (c ∷ cs) = let x = outcome st c in x ∷ outcomes (x .next) cs
+
+unfoldable pub after : State → List Call → State
+after st [] = st
+after st (c ∷ cs) = after (outcome st c .next) cs
+
+abbrev pub answers : List Outcome → List Answer
+answers l = map (λ (x : Outcome). x .answer) l
+
+-- A server that was started with the zone, and opened session 0 at 1,000.
+abbrev pub server : State
+server = fresh zone
+
+abbrev pub ready : State
+ready = after server (opens 1000 ∷ [])
+
+-- One that holds records, of which session 0 asked for some.
+abbrev pub watched : List Record → List (List ℕ) → State
+watched held messages = after ready (batch (puts held) ∷ map message messages)
+
+-- ---- what session 0 sees
+
+abbrev pub sent0 : Outcome → List ℕ
+sent0 x = bytesFor (x .answer) (x .output) 0
+
+-- The flags of the first message.
+abbrev pub replyFlags : Outcome → ℕ
+replyFlags x = flags (drop 2 (sent0 x))
+
+-- The changes of each PUSH, where there are PUSH messages alone.
+abbrev pub pushed : Outcome → Option (List (List Change))
+pushed x = pushesIn (sent0 x)
+
+abbrev pub subscriptionsOf : Slot → List Subscription
+subscriptionsOf free = []
+subscriptionsOf (live x) = x .subscriptions
