@@ -40,7 +40,7 @@ use Rattle.server.specs.declared.places.Vacant.the-variants.{At, Nowhere
 use Rattle.server.specs.Memory.{Memory, areaAt, slotOf, stateOf}
 use Rattle.server.specs.Numbers.{vacancy, newcomer, putSession, atTime, sweptBy}
 use Rattle.server.specs.Checks.{refusedBy, vacantOf}
-use Rattle.server.specs.Answers.{Gives, answerOf, flagsOf}
+use Rattle.server.specs.Answers.{Gives, answerOf, flagsOf, refusing}
 use Rattle.server.proofs.States.{state-put, slot-vacancy, slot-newcomer}
 use Rattle.server.proofs.Ticks.{state-ticked}
 
@@ -70,13 +70,15 @@ open-some st t i e = rw (e, openOutcome)
 
 -- ---- the checks decide first
 
+gives-refusing : (s : Server) (x : Refusal) (m : Memory) (o : List ℕ) → Gives s (refusing s x) m o (refuse (stateOf s m) o x)
+unfolding answerOf
+gives-refusing s x m o = record { next = refl; answer = refl; output = refl; unchanged = λ y p. refl }
+
 module _ (s : Server) (call : Call) (k : Checked) (h : (m : Memory) → refusedBy k ≡ refusalOf (stateOf s m) (brought call)) where
-  pub gives-refused : (x : Refusal) → k ≡ Refuse x → (m : Memory)
-      → Gives s (record { server = s; answer = Refused x }) m (lent call) (outcome (stateOf s m) call)
-  unfolding answerOf
-  gives-refused x e m =
-      rw (outcome-refused (stateOf s m) call x (sym (h m) ∙ ap refusedBy e))
-      (record { next = refl; answer = refl; output = refl; unchanged = λ y p. refl })
+  pub gives-refused : (x : Refusal) → k ≡ Refuse x → (r : Outcome) → r ≡ refusing s x → (m : Memory)
+      → Gives s r m (lent call) (outcome (stateOf s m) call)
+  gives-refused x e r f m =
+      rw (outcome-refused (stateOf s m) call x (sym (h m) ∙ ap refusedBy e), f) (gives-refusing s x m (lent call))
 
   pub gives-passed : k ≡ Pass → (r : Outcome) (m m′ : Memory) (o : List ℕ)
       → Gives s r m′ o (passed (stateOf s m) call) → Gives s r m′ o (outcome (stateOf s m) call)
@@ -85,12 +87,10 @@ module _ (s : Server) (call : Call) (k : Checked) (h : (m : Memory) → refusedB
 -- ---- open
 
 module _ (s : Server) (t : ℕ) (v : Vacant) (h : (m : Memory) → vacantOf v ≡ lowestFree (stateOf s m .slots)) where
-  pub gives-all-open : v ≡ Nowhere → (m : Memory)
-      → Gives s (record { server = s; answer = Refused AllOpen }) m [] (openOutcome (stateOf s m) t)
-  unfolding answerOf
-  gives-all-open e m =
-      rw (open-none (stateOf s m) t (sym (h m) ∙ ap vacantOf e))
-      (record { next = refl; answer = refl; output = refl; unchanged = λ y p. refl })
+  pub gives-all-open : v ≡ Nowhere → (r : Outcome) → r ≡ refusing s AllOpen → (m : Memory)
+      → Gives s r m [] (openOutcome (stateOf s m) t)
+  gives-all-open e r f m =
+      rw (open-none (stateOf s m) t (sym (h m) ∙ ap vacantOf e), f) (gives-refusing s AllOpen m [])
 
   pub gives-opened : (i : ℕ) → v ≡ At i → (x : Session) → x ≡ newcomer t → (z : Server) → z ≡ atTime t (putSession i x s) → (m : Memory)
       → Gives s (record { server = z; answer = Opened (record { 0 = i }) }) m [] (openOutcome (stateOf s m) t)

@@ -1,20 +1,18 @@
 -- The shared checks: each answers in its turn.
-use Prim.Native.Nat.{ℕ, _≤_, _<_}
-use mathlib.Core.Bool.{Bool, true, false, cond, _||_}
-use mathlib.Core.Option.{Option, none, some}
-use mathlib.Core.Path.{_≡_, refl, sym, ap, _∙_}
-use lib.Dec.{leb, ltb}
-use borrow.Author.Tests.{lt-ltb, le-ltb}
-use Rattle.service.specs.State.{State, slotAt, maxSessions}
+use Prim.Native.Nat.{ℕ}
+use mathlib.Core.Bool.{Bool, false}
+use mathlib.Core.Option.{Option}
+use mathlib.Core.Path.{_≡_, sym, ap, _∙_}
+use lib.Dec.{ltb}
+use Rattle.service.specs.State.{slotAt}
 use Rattle.service.specs.Checks.{isShort, isFree, isAbsent, isLong, refusalOf, leastOutput, maxMessage}
 use Rattle.service.specs.declared.refusal.Refusal.{Refusal}
-use Rattle.service.specs.declared.refusal.Refusal.the-variants.{NoSession, TimeBackwards, OutputTooShort, MessageTooLong}
 use Rattle.server.specs.declared.state.Server.{Server}
 use Rattle.server.specs.declared.checks.Given.{Given}
 use Rattle.server.specs.declared.checks.Given.the-variants.{Absent, Is}
 use Rattle.server.specs.declared.checks.Brought.{Brought}
 use Rattle.server.specs.Memory.{Memory, stateOf}
-use Rattle.server.specs.Checks.{givenOf, broughtOf}
+use Rattle.server.specs.Checks.{givenOf, broughtOf, firstOf}
 use Rattle.server.proofs.Vacancies.{free-past}
 
 -- ---- a number that a call has or has not
@@ -35,42 +33,14 @@ absent-at s g i e b h m =
 
 -- ---- the four in their order
 
-pick : Bool → Bool → Bool → Bool → Option Refusal
-pick short early absent long =
-    cond short (some OutputTooShort)
-    (cond early (some TimeBackwards) (cond absent (some NoSession) (cond long (some MessageTooLong) none)))
-
-picked : (s : Server) (m : Memory) (b : Brought) (short early absent long : Bool) → isShort (givenOf (b .output)) ≡ short
-    → ltb (b .time) (s .latest) ≡ early → isAbsent (stateOf s m) (givenOf (b .session)) ≡ absent
-    → isLong (givenOf (b .message)) ≡ long → pick short early absent long ≡ refusalOf (stateOf s m) (broughtOf b)
-unfolding refusalOf stateOf pick
-picked s m b short early absent long p q r w =
-    let st = stateOf s m in
-    sym (ap (λ (x : Bool). pick x (ltb (b .time) (s .latest)) (isAbsent st (givenOf (b .session))) (isLong (givenOf (b .message)))) p
-    ∙ ap (λ (x : Bool). pick short x (isAbsent st (givenOf (b .session))) (isLong (givenOf (b .message)))) q
-    ∙ ap (λ (x : Bool). pick short early x (isLong (givenOf (b .message)))) r
-    ∙ ap (pick short early absent) w)
-
-module _ (s : Server) (b : Brought) (short : Bool) (p : short ≡ isShort (givenOf (b .output))) where
-  pub check-short : short ≡ true → (m : Memory) → some OutputTooShort ≡ refusalOf (stateOf s m) (broughtOf b)
-  unfolding pick
-  check-short h m = picked s m b true _ _ _ (sym p ∙ h) refl refl refl
-
-  module _ (h : short ≡ false) where
-    pub check-early : b .time < s .latest → (m : Memory) → some TimeBackwards ≡ refusalOf (stateOf s m) (broughtOf b)
-    unfolding pick
-    check-early q m = picked s m b false true _ _ (sym p ∙ h) (lt-ltb (b .time) (s .latest) q) refl refl
-
-    module _ (q : s .latest ≤ b .time) (absent : Bool) (r : (m : Memory) → absent ≡ isAbsent (stateOf s m) (givenOf (b .session))) where
-      pub check-absent : absent ≡ true → (m : Memory) → some NoSession ≡ refusalOf (stateOf s m) (broughtOf b)
-      unfolding pick
-      check-absent k m = picked s m b false false true _ (sym p ∙ h) (le-ltb (b .time) (s .latest) q) (sym (r m) ∙ k) refl
-
-      module _ (k : absent ≡ false) (long : Bool) (w : long ≡ isLong (givenOf (b .message))) where
-        pub check-long : long ≡ true → (m : Memory) → some MessageTooLong ≡ refusalOf (stateOf s m) (broughtOf b)
-        unfolding pick
-        check-long x m = picked s m b false false false true (sym p ∙ h) (le-ltb (b .time) (s .latest) q) (sym (r m) ∙ k) (sym w ∙ x)
-
-        pub check-pass : long ≡ false → (m : Memory) → none ≡ refusalOf (stateOf s m) (broughtOf b)
-        unfolding pick
-        check-pass x m = picked s m b false false false false (sym p ∙ h) (le-ltb (b .time) (s .latest) q) (sym (r m) ∙ k) (sym w ∙ x)
+pub checked : (s : Server) (b : Brought) (short : Bool) → short ≡ isShort (givenOf (b .output))
+    → (absent : Bool) → ((m : Memory) → absent ≡ isAbsent (stateOf s m) (givenOf (b .session)))
+    → (long : Bool) → long ≡ isLong (givenOf (b .message)) → (k : Option Refusal)
+    → k ≡ firstOf short (ltb (b .time) (s .latest)) absent long → (m : Memory) → k ≡ refusalOf (stateOf s m) (broughtOf b)
+unfolding refusalOf stateOf firstOf
+checked s b short p absent q long r k e m =
+    let early = ltb (b .time) (s .latest) in
+    e
+    ∙ ap (λ (x : Bool). firstOf x early absent long) p
+    ∙ ap (λ (x : Bool). firstOf (isShort (givenOf (b .output))) early x long) (q m)
+    ∙ ap (firstOf (isShort (givenOf (b .output))) early (isAbsent (stateOf s m) (givenOf (b .session)))) r

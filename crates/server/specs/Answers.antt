@@ -40,6 +40,10 @@ answerOf Aborted = aborted
 answerOf (Reconfirm places) = reconfirm places
 answerOf (Refused r) = refused r
 
+-- A refusal.
+abbrev pub refusing : Server → Refusal → Outcome
+refusing s x = record { server = s; answer = Refused x }
+
 -- A call on the numbers s left the numbers and the answer of r, the memory m and the output o: they are the next state, the
 -- answer and the output of an outcome w. A refusal hands back the very numbers that came in.
 pub record Gives (s : Server) (r : Outcome) (m : Memory) (o : List ℕ) (w : Call.Outcome) : Type 0 where

@@ -6,12 +6,15 @@ use Rattle.server.specs.declared.state.Session.{Session}
 use Rattle.server.specs.declared.state.Server.{Server}
 use Rattle.server.specs.declared.answer.Flags.{Flags}
 
--- The numbers of a place that no session has, and of a session that is opened at a time.
+-- The numbers of a session with no subscription; those of a place that no session has, and of a session that is opened.
+abbrev pub bareOf : Bool → ℕ → Session
+bareOf live t = record { live = live; clocks = started t; count = 0 }
+
 abbrev pub vacancy : Session
-vacancy = record { live = false; clocks = started 0; count = 0 }
+vacancy = bareOf false 0
 
 abbrev pub newcomer : ℕ → Session
-newcomer t = record { live = true; clocks = started t; count = 0 }
+newcomer t = bareOf true t
 
 -- The numbers of a session; past the last one those of a vacant place.
 unfoldable pub sessionAt : ℕ → Server → Session

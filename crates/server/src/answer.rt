@@ -3,6 +3,8 @@ use crate::state::Server;
 use dso::RecordPlaces;
 use service::Refusal;
 use service::SessionNumber;
+ghost use mathlib.Core.Path.{_≡_};
+ghost use Rattle.server.specs.Answers.{refusing};
 
 // For each session, whether it was aborted.
 pub struct Flags {
@@ -42,4 +44,12 @@ pub enum Answer {
 pub struct Outcome {
     pub server: Server,
     pub answer: Answer,
+}
+
+// A refusal: the numbers go back as they came.
+pub fn refused(server: Server, why: Refusal) -> Outcome
+    ensures { λ r. ⌜ r ≡ refusing server why ⌝ }
+{
+    let answer = Answer::Refused(why);
+    Outcome { server, answer }
 }

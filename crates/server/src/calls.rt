@@ -1,6 +1,7 @@
 // The calls that need no octets: open, close, tick.
 use crate::answer::Answer;
 use crate::answer::Outcome;
+use crate::answer::refused;
 use crate::checks::Brought;
 use crate::checks::Checked;
 use crate::checks::Given;
@@ -26,10 +27,7 @@ fn open_lowest(server: Server, time: u64) -> Outcome
     ensures { λ r. ⌜ ((m : Memory) → Gives server r m [] (openOutcome (stateOf server m) time)) ⌝ }
 {
     let Vacant::At(i) = lowest_free(server) else {
-        return Outcome {
-            server,
-            answer: Answer::Refused(Refusal::AllOpen),
-        };
+        return refused(server, Refusal::AllOpen);
     };
     Outcome {
         server: replaced(server, time, i, opened(time)),
@@ -47,10 +45,7 @@ pub fn open(server: Server, time: u64) -> Outcome
         message: Given::Absent,
     };
     match check(server, b) {
-        Checked::Refuse(why) => Outcome {
-            server,
-            answer: Answer::Refused(why),
-        },
+        Checked::Refuse(why) => refused(server, why),
         Checked::Pass => open_lowest(server, time),
     }
 }
@@ -66,10 +61,7 @@ pub fn close(server: Server, time: u64, session: SessionNumber) -> Outcome
         message: Given::Absent,
     };
     match check(server, b) {
-        Checked::Refuse(why) => Outcome {
-            server,
-            answer: Answer::Refused(why),
-        },
+        Checked::Refuse(why) => refused(server, why),
         Checked::Pass => Outcome {
             server: replaced(server, time, i, vacant()),
             answer: Answer::Done,
@@ -87,10 +79,7 @@ pub fn tick(server: Server, time: u64) -> Outcome
         message: Given::Absent,
     };
     match check(server, b) {
-        Checked::Refuse(why) => Outcome {
-            server,
-            answer: Answer::Refused(why),
-        },
+        Checked::Refuse(why) => refused(server, why),
         Checked::Pass => {
             let flags = due(server, time);
             Outcome {

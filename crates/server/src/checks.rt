@@ -5,7 +5,7 @@ use service::Refusal;
 ghost use mathlib.Core.Path.{_≡_};
 ghost use Rattle.service.specs.Checks.{isShort, isLong, isAbsent, refusalOf};
 ghost use Rattle.server.specs.Memory.{Memory, stateOf};
-ghost use Rattle.server.specs.Checks.{givenOf, broughtOf, refusedBy};
+ghost use Rattle.server.specs.Checks.{givenOf, broughtOf, refusedBy, firstOf};
 
 // 01: "The caller lends four shelves of 16,384 bytes each, one slice of 65,536".
 const LEAST_OUTPUT: u64 = 65536;
@@ -59,23 +59,36 @@ fn is_absent(server: Server, session: Given) -> bool
     is_free(server, i)
 }
 
+// The first of the four that fails decides.
+fn first_of(short: bool, early: bool, absent: bool, long: bool) -> Checked
+    ensures { λ r. ⌜ refusedBy r ≡ firstOf short early absent long ⌝ }
+{
+    if short {
+        return Checked::Refuse(Refusal::OutputTooShort);
+    }
+    if early {
+        return Checked::Refuse(Refusal::TimeBackwards);
+    }
+    if absent {
+        return Checked::Refuse(Refusal::NoSession);
+    }
+    if long {
+        return Checked::Refuse(Refusal::MessageTooLong);
+    }
+    Checked::Pass
+}
+
 pub fn check(server: Server, b: Brought) -> Checked
     ensures { λ r. ⌜ ((m : Memory) → refusedBy r ≡ refusalOf (stateOf server m) (broughtOf b)) ⌝ }
 {
     let output = b.output;
     let session = b.session;
     let message = b.message;
-    if is_short(output) {
-        return Checked::Refuse(Refusal::OutputTooShort);
-    }
-    if b.time < server.latest {
-        return Checked::Refuse(Refusal::TimeBackwards);
-    }
-    if is_absent(server, session) {
-        return Checked::Refuse(Refusal::NoSession);
-    }
-    if is_long(message) {
-        return Checked::Refuse(Refusal::MessageTooLong);
-    }
-    Checked::Pass
+    let early = b.time < server.latest;
+    first_of(
+        is_short(output),
+        early,
+        is_absent(server, session),
+        is_long(message),
+    )
 }

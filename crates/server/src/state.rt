@@ -2,7 +2,7 @@
 use session::Clocks;
 use session::started;
 ghost use mathlib.Core.Path.{_≡_};
-ghost use Rattle.server.specs.Numbers.{vacancy, newcomer, sessionAt, putSession, atTime, freshOf};
+ghost use Rattle.server.specs.Numbers.{bareOf, vacancy, newcomer, sessionAt, putSession, atTime, freshOf};
 
 pub const SESSIONS: u64 = 4;
 
@@ -28,26 +28,29 @@ pub struct Server {
     pub s3: Session,
 }
 
+// With no subscription, and both clocks started at a time.
+fn bare(live: bool, t: u64) -> Session
+    ensures { λ r. ⌜ r ≡ bareOf live t ⌝ }
+{
+    Session {
+        live,
+        clocks: started(t),
+        count: 0,
+    }
+}
+
 // A place that no session has.
 pub fn vacant() -> Session
     ensures { λ r. ⌜ r ≡ vacancy ⌝ }
 {
-    Session {
-        live: false,
-        clocks: started(0),
-        count: 0,
-    }
+    bare(false, 0)
 }
 
 // A session that is opened at a time.
 pub fn opened(t: u64) -> Session
     ensures { λ r. ⌜ r ≡ newcomer t ⌝ }
 {
-    Session {
-        live: true,
-        clocks: started(t),
-        count: 0,
-    }
+    bare(true, t)
 }
 
 // A server whose zone's name has so many octets: no session, no record, the clock at 0.

@@ -7,8 +7,8 @@ use Rattle.server.proofs.calls.close.Tie as tie
 
 returns : tie.Need-returns
 returns c =
-    let a = c .before .before .before .before .args in
-    gives-refused _ (closes (a .time) (a .session .0)) _ (c .before .before .before .check .ensures) _ (c .before .why .given .1)
+    let a = c .before .before .before .before .before .args in
+    gives-refused _ (closes (a .time) (a .session .0)) _ (c .before .before .before .before .check .ensures) _ (c .before .before .why .given .1) _ (c .refused .ensures)
 
 returns-2 : tie.Need-returns-2
 unfolding passed
@@ -23,6 +23,7 @@ close-spec =
     (tie.spec
     (λ c κs. search needs)
     (λ c. search needs)
+    (λ c κs. search needs)
     (λ c. search needs)
     (λ c κs. search needs)
     (λ c κs. search needs)

@@ -6,7 +6,7 @@ use Rattle.server.proofs.calls.open.Statement.{statement}
 use Rattle.server.proofs.calls.open.Tie as tie
 
 returns : tie.Need-returns
-returns c = gives-refused _ (opens (c .before .before .before .before .args .time)) _ (c .before .before .before .check .ensures) _ (c .before .why .given .1)
+returns c = gives-refused _ (opens (c .before .before .before .before .before .args .time)) _ (c .before .before .before .before .check .ensures) _ (c .before .before .why .given .1) _ (c .refused .ensures)
 
 returns-2 : tie.Need-returns-2
 unfolding passed
@@ -19,6 +19,7 @@ open-spec =
     (tie.spec
     (λ c κs. search needs)
     (λ c. search needs)
+    (λ c κs. search needs)
     (λ c. search needs)
     (λ c κs. search needs)
     returns

@@ -5,7 +5,7 @@ use Rattle.server.proofs.calls.open_lowest.Statement.{statement}
 use Rattle.server.proofs.calls.open_lowest.Tie as tie
 
 returns : tie.Need-returns
-returns c = gives-all-open _ (c .before .before .before .args .time) _ (c .before .before .lowest-free .ensures) (c .enum-told .given .1)
+returns c = gives-all-open _ (c .before .before .before .before .args .time) _ (c .before .before .before .lowest-free .ensures) (c .before .enum-told .given .1) _ (c .refused .ensures)
 
 returns-2 : tie.Need-returns-2
 returns-2 c =
@@ -18,6 +18,7 @@ open-lowest-spec =
     (λ c κs. search needs)
     (λ c. search needs)
     (λ c. search needs)
+    (λ c κs. search needs)
     returns
     (λ c κs. search needs)
     (λ c κs. search needs)

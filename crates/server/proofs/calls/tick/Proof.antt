@@ -6,7 +6,7 @@ use Rattle.server.proofs.calls.tick.Statement.{statement}
 use Rattle.server.proofs.calls.tick.Tie as tie
 
 returns : tie.Need-returns
-returns c = gives-refused _ (ticks (c .before .before .before .before .args .time)) _ (c .before .before .before .check .ensures) _ (c .before .why .given .1)
+returns c = gives-refused _ (ticks (c .before .before .before .before .before .args .time)) _ (c .before .before .before .before .check .ensures) _ (c .before .before .why .given .1) _ (c .refused .ensures)
 
 returns-2 : tie.Need-returns-2
 unfolding passed
@@ -21,6 +21,7 @@ tick-spec =
     (tie.spec
     (λ c κs. search needs)
     (λ c. search needs)
+    (λ c κs. search needs)
     (λ c. search needs)
     (λ c κs. search needs)
     (λ c κs. search needs)
