@@ -3,7 +3,7 @@ use crate::BatchFault;
 use crate::reading::CheckedEdit;
 use crate::reading::FIXED;
 use crate::reading::checked_edit;
-use crate::records::AREA;
+use crate::records::Area;
 use crate::records::clamped;
 use crate::update::Applied;
 use crate::update::apply;
@@ -24,7 +24,7 @@ pub enum Stepped {
     Stop(BatchFault),
 }
 
-fn step(zone: &[u8], bytes: &[u8], at: usize, n: usize, area: &mut [u8; AREA]) -> Stepped
+fn step(zone: &[u8], bytes: &[u8], at: usize, n: usize, area: &mut Area) -> Stepped
     requires { ⌜ (n ≤ maxRecords) × (at < length (now bytes)) ⌝ }
     ensures { λ r. ⌜ Steps (now (zone .entry)) (now (bytes .entry)) at (recordsOf n (now (area .entry))) r (now (area .exit)) ⌝ }
 {
@@ -52,7 +52,7 @@ pub enum BatchResult {
     Faulty(BatchFault),
 }
 
-fn edit_all(zone: &[u8], bytes: &[u8], count: usize, area: &mut [u8; AREA]) -> BatchResult
+fn edit_all(zone: &[u8], bytes: &[u8], count: usize, area: &mut Area) -> BatchResult
     requires { ⌜ count ≤ maxRecords ⌝ }
     ensures { λ r. ⌜ editedOf r (now (area .exit)) ≡ batchOf (now (zone .entry)) (now (bytes .entry)) (recordsOf count (now (area .entry))) ⌝ }
 {
@@ -78,9 +78,9 @@ fn edit_all(zone: &[u8], bytes: &[u8], count: usize, area: &mut [u8; AREA]) -> B
 pub fn batch(
     zone: &[u8],
     bytes: &[u8],
-    old: &[u8; AREA],
+    old: &Area,
     count: usize,
-    new: &mut [u8; AREA],
+    new: &mut Area,
 ) -> BatchResult
     ensures { λ r. ⌜ editedOf r (now (new .exit)) ≡ batchOf (now (zone .entry)) (now (bytes .entry)) (recordsOf count (now (old .entry))) ⌝ }
 {

@@ -14,6 +14,7 @@ pub use reading::allowed;
 pub use reading::checked_edit;
 pub use reading::read_edit;
 pub use records::AREA;
+pub use records::Area;
 pub use records::BLOCK;
 pub use records::Found;
 pub use records::RECORDS;

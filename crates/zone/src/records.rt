@@ -32,8 +32,11 @@ pub const BLOCK: usize = RDATA + MAX_RDATA;
 
 pub const AREA: usize = RECORDS * BLOCK;
 
+// The lent memory of a store.
+pub type Area = [u8; AREA];
+
 // A block of the area; past the last one nothing.
-pub fn block(area: &[u8; AREA], i: usize) -> &[u8]
+pub fn block(area: &Area, i: usize) -> &[u8]
     ensures { λ r. ⌜ now r ≡ blockAt (now (area .entry)) i ⌝ }
 {
     if RECORDS <= i {
@@ -118,7 +121,7 @@ pub fn clamped(count: usize) -> usize
 }
 
 pub fn find(
-    area: &[u8; AREA],
+    area: &Area,
     count: usize,
     name: &[u8],
     rrtype: u16,

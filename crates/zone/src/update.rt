@@ -1,6 +1,6 @@
 // Changes of the store in lent memory: a TTL set, a record removed and the gap closed, a record added at the end; one edit.
 use crate::reading::MAX_TTL;
-use crate::records::AREA;
+use crate::records::Area;
 use crate::records::BLOCK;
 use crate::records::Found;
 use crate::records::OWNER;
@@ -23,7 +23,7 @@ ghost use Rattle.zone.specs.Batch.{maxRecords, maxRdata, maxTtl};
 ghost use Rattle.zone.specs.Table.{blockSize, areaSize, recordsOf, recordFrom, keyFrom};
 ghost use Rattle.zone.specs.Update.{TtlSet, TtlSetIf, DroppedIf, AppliedAs, numbered};
 
-fn set_ttl(area: &mut [u8; AREA], i: usize, ttl: u32)
+fn set_ttl(area: &mut Area, i: usize, ttl: u32)
     requires { ⌜ i < maxRecords ⌝ }
     ensures { λ _. ⌜ TtlSet ttl (now (area .entry)) i (now (area .exit)) ⌝ }
 {
@@ -31,7 +31,7 @@ fn set_ttl(area: &mut [u8; AREA], i: usize, ttl: u32)
 }
 
 fn set_ttl_if(
-    area: &mut [u8; AREA],
+    area: &mut Area,
     i: usize,
     name: &[u8],
     rrtype: u16,
@@ -49,7 +49,7 @@ fn set_ttl_if(
 
 // The TTL of every record with a key.
 fn set_ttls(
-    area: &mut [u8; AREA],
+    area: &mut Area,
     n: usize,
     name: &[u8],
     rrtype: u16,
@@ -67,7 +67,7 @@ fn set_ttls(
     }
 }
 
-fn close_gap(area: &mut [u8; AREA], n: usize, i: usize)
+fn close_gap(area: &mut Area, n: usize, i: usize)
     requires { ⌜ (i < n) × (n ≤ maxRecords) ⌝ }
     ensures { λ _. ⌜ recordsOf (n - 1) (now (area .exit)) ≡ cut i (recordsOf n (now (area .entry))) ⌝ }
 {
@@ -76,7 +76,7 @@ fn close_gap(area: &mut [u8; AREA], n: usize, i: usize)
 }
 
 fn remove_if(
-    area: &mut [u8; AREA],
+    area: &mut Area,
     n: usize,
     i: usize,
     name: &[u8],
@@ -96,7 +96,7 @@ fn remove_if(
 
 // Every record with a key, from the last to the first; the count that is left.
 fn remove(
-    area: &mut [u8; AREA],
+    area: &mut Area,
     count: usize,
     name: &[u8],
     rrtype: u16,
@@ -115,7 +115,7 @@ fn remove(
     n
 }
 
-fn write_numbers(area: &mut [u8; AREA], at: usize, rrtype: u16, rrclass: u16, ttl: u32)
+fn write_numbers(area: &mut Area, at: usize, rrtype: u16, rrclass: u16, ttl: u32)
     requires { ⌜ at + blockSize ≤ areaSize ⌝ }
     ensures { λ _. ⌜ now (area .exit) ≡ numbered (now (area .entry)) at rrtype rrclass ttl ⌝ }
 {
@@ -126,7 +126,7 @@ fn write_numbers(area: &mut [u8; AREA], at: usize, rrtype: u16, rrclass: u16, tt
 
 // A record behind the last one.
 fn append(
-    area: &mut [u8; AREA],
+    area: &mut Area,
     n: usize,
     name: &[u8],
     rrtype: u16,
@@ -152,7 +152,7 @@ pub enum Applied {
 }
 
 fn put(
-    area: &mut [u8; AREA],
+    area: &mut Area,
     n: usize,
     name: &[u8],
     rrtype: u16,
@@ -176,7 +176,7 @@ fn put(
 
 // One edit: a put, or the removal of what has the key.
 pub(crate) fn apply(
-    area: &mut [u8; AREA],
+    area: &mut Area,
     n: usize,
     name: &[u8],
     rrtype: u16,
