@@ -21,8 +21,8 @@ use Rattle.zone.specs.Table.{recordsOf, indexOf, foundAt}
 use Rattle.zone.specs.Update.{storeOf, countOf, applied, AppliedAs}
 use Rattle.zone.specs.declared.records.Found.{Found}
 use Rattle.zone.specs.declared.records.Found.the-variants.{At, Nothing}
-use Rattle.zone.specs.declared.update.Applied.{Applied}
-use Rattle.zone.specs.declared.update.Applied.the-variants.{Count, Full}
+use Rattle.zone.specs.declared.editing.Applied.{Applied}
+use Rattle.zone.specs.declared.editing.Applied.the-variants.{Count, Full}
 use Rattle.zone.proofs.Stores.{held-cons, none-held, find-alike, find-apart, remove-absent, distinct-head, distinct-tail}
 use Rattle.zone.proofs.Keys.{sameKey-true}
 use Rattle.zone.proofs.Memory.{noRecord, length-records}

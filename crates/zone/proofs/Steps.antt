@@ -25,8 +25,8 @@ use Rattle.zone.specs.declared.BatchFault.the-variants.{TooManyEdits, Un
 use Rattle.zone.specs.declared.reading.Edit.{Edit}
 use Rattle.zone.specs.declared.reading.CheckedEdit.{CheckedEdit}
 use Rattle.zone.specs.declared.reading.CheckedEdit.the-variants.{Good, Fault}
-use Rattle.zone.specs.declared.update.Applied.{Applied}
-use Rattle.zone.specs.declared.update.Applied.the-variants.{Count, Full}
+use Rattle.zone.specs.declared.editing.Applied.{Applied}
+use Rattle.zone.specs.declared.editing.Applied.the-variants.{Count, Full}
 use Rattle.zone.specs.declared.editing.Stepped.{Stepped}
 use Rattle.zone.specs.declared.editing.Stepped.the-variants.{Next, Stop}
 use Rattle.zone.specs.declared.editing.BatchResult.{BatchResult}

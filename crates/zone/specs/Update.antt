@@ -12,8 +12,8 @@ use Rattle.zone.specs.Record.{Record, Key, keyOf, sameKey}
 use Rattle.zone.specs.Store.{withTtl, setIf}
 use Rattle.zone.specs.Batch.{maxRecords, overfull, edit}
 use Rattle.zone.specs.Table.{blockAt, recOf, recordsOf}
-use Rattle.zone.specs.declared.update.Applied.{Applied}
-use Rattle.zone.specs.declared.update.Applied.the-variants.{Count, Full}
+use Rattle.zone.specs.declared.editing.Applied.{Applied}
+use Rattle.zone.specs.declared.editing.Applied.the-variants.{Count, Full}
 
 -- Whether the record in a block has a key.
 abbrev pub keyed : List ℕ → ℕ → Key → Bool

@@ -2,7 +2,6 @@
 mod editing;
 mod reading;
 mod records;
-mod update;
 
 pub use editing::BatchResult;
 pub use editing::EDITS;

@@ -1,8 +1,8 @@
--- `zone::update::set_ttl_if` meets its contract. Assumes nothing.
+-- `zone::editing::set_ttl_if` meets its contract. Assumes nothing.
 use Rattle.zone.proofs.Updates.{ttl-set-true, ttl-set-false}
 use borrow.Author.Needs.{needs}
-use Rattle.zone.proofs.update.set_ttl_if.Statement.{statement}
-use Rattle.zone.proofs.update.set_ttl_if.Tie as tie
+use Rattle.zone.proofs.editing.set_ttl_if.Statement.{statement}
+use Rattle.zone.proofs.editing.set_ttl_if.Tie as tie
 
 pub set-ttl-if-spec : {M : Type 1} → statement M
 set-ttl-if-spec =

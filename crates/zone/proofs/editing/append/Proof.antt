@@ -1,9 +1,9 @@
--- `zone::update::append` meets its contract. Assumes nothing.
+-- `zone::editing::append` meets its contract. Assumes nothing.
 use native.Mathlib.Omega.{arith}
 use Rattle.zone.proofs.Filled.{appended}
 use borrow.Author.Needs.{needs}
-use Rattle.zone.proofs.update.append.Statement.{statement}
-use Rattle.zone.proofs.update.append.Tie as tie
+use Rattle.zone.proofs.editing.append.Statement.{statement}
+use Rattle.zone.proofs.editing.append.Tie as tie
 
 pub append-spec : {M : Type 1} → statement M
 append-spec =

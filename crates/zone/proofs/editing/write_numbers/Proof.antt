@@ -1,7 +1,7 @@
--- `zone::update::write_numbers` meets its contract. Assumes nothing.
+-- `zone::editing::write_numbers` meets its contract. Assumes nothing.
 use borrow.Author.Needs.{needs}
-use Rattle.zone.proofs.update.write_numbers.Statement.{statement}
-use Rattle.zone.proofs.update.write_numbers.Tie as tie
+use Rattle.zone.proofs.editing.write_numbers.Statement.{statement}
+use Rattle.zone.proofs.editing.write_numbers.Tie as tie
 
 pub write-numbers-spec : {M : Type 1} → statement M
 write-numbers-spec =

@@ -1,9 +1,9 @@
--- `zone::update::set_ttl` meets its contract. Assumes nothing.
+-- `zone::editing::set_ttl` meets its contract. Assumes nothing.
 use native.Mathlib.Omega.{arith}
 use Rattle.zone.proofs.Updates.{ttl-set}
 use borrow.Author.Needs.{needs}
-use Rattle.zone.proofs.update.set_ttl.Statement.{statement}
-use Rattle.zone.proofs.update.set_ttl.Tie as tie
+use Rattle.zone.proofs.editing.set_ttl.Statement.{statement}
+use Rattle.zone.proofs.editing.set_ttl.Tie as tie
 
 pub set-ttl-spec : {M : Type 1} → statement M
 set-ttl-spec =

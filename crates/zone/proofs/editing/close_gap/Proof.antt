@@ -1,9 +1,9 @@
--- `zone::update::close_gap` meets its contract. Assumes nothing.
+-- `zone::editing::close_gap` meets its contract. Assumes nothing.
 use native.Mathlib.Omega.{arith}
 use Rattle.zone.proofs.Updates.{records-slid}
 use borrow.Author.Needs.{needs}
-use Rattle.zone.proofs.update.close_gap.Statement.{statement}
-use Rattle.zone.proofs.update.close_gap.Tie as tie
+use Rattle.zone.proofs.editing.close_gap.Statement.{statement}
+use Rattle.zone.proofs.editing.close_gap.Tie as tie
 
 pub close-gap-spec : {M : Type 1} → statement M
 close-gap-spec =

@@ -1,8 +1,8 @@
--- `zone::update::put` meets its contract. Assumes nothing.
+-- `zone::editing::put` meets its contract. Assumes nothing.
 use Rattle.zone.proofs.Applies.{put-held, put-full, put-new}
 use borrow.Author.Needs.{needs}
-use Rattle.zone.proofs.update.put.Statement.{statement}
-use Rattle.zone.proofs.update.put.Tie as tie
+use Rattle.zone.proofs.editing.put.Statement.{statement}
+use Rattle.zone.proofs.editing.put.Tie as tie
 
 pub put-spec : {M : Type 1} → statement M
 put-spec =

@@ -1,10 +1,10 @@
--- `zone::update::set_ttls` meets its contract. The loop's invariant: the records before `i` are done. Assumes nothing.
+-- `zone::editing::set_ttls` meets its contract. The loop's invariant: the records before `i` are done. Assumes nothing.
 use Prim.Native.Nat.{_-_}
 use native.Mathlib.Omega.{arith}
 use Rattle.zone.specs.Table.{keyFrom}
 use Rattle.zone.proofs.Updates.{Timed, timed-none, timed-turn, timed-all}
-use Rattle.zone.proofs.update.set_ttls.Statement.{statement}
-use Rattle.zone.proofs.update.set_ttls.Tie as tie
+use Rattle.zone.proofs.editing.set_ttls.Statement.{statement}
+use Rattle.zone.proofs.editing.set_ttls.Tie as tie
 
 abbrev Inv-loop : tie.InvT-loop
 Inv-loop area₀ n name rrtype rrclass rdata ttl i₀ area i = Timed (keyFrom name rrtype rrclass rdata) ttl n area₀ area i

@@ -1,9 +1,9 @@
--- `zone::update::remove_if` meets its contract. Assumes nothing.
+-- `zone::editing::remove_if` meets its contract. Assumes nothing.
 use native.Mathlib.Omega.{arith}
 use Rattle.zone.proofs.Updates.{droppedIf-true, droppedIf-false}
 use borrow.Author.Needs.{needs}
-use Rattle.zone.proofs.update.remove_if.Statement.{statement}
-use Rattle.zone.proofs.update.remove_if.Tie as tie
+use Rattle.zone.proofs.editing.remove_if.Statement.{statement}
+use Rattle.zone.proofs.editing.remove_if.Tie as tie
 
 pub remove-if-spec : {M : Type 1} → statement M
 remove-if-spec =

@@ -1,9 +1,9 @@
--- `zone::update::remove` meets its contract. The loop's invariant: the records from `i` on are looked at. Assumes nothing.
+-- `zone::editing::remove` meets its contract. The loop's invariant: the records from `i` on are looked at. Assumes nothing.
 use native.Mathlib.Omega.{arith}
 use Rattle.zone.specs.Table.{keyFrom}
 use Rattle.zone.proofs.Updates.{Dropped, dropped-none, dropped-turn, dropped-all}
-use Rattle.zone.proofs.update.remove.Statement.{statement}
-use Rattle.zone.proofs.update.remove.Tie as tie
+use Rattle.zone.proofs.editing.remove.Statement.{statement}
+use Rattle.zone.proofs.editing.remove.Tie as tie
 
 abbrev Inv-loop : tie.InvT-loop
 Inv-loop area₀ count name rrtype rrclass rdata n₀ i₀ area n i = Dropped (keyFrom name rrtype rrclass rdata) count area₀ area n i

@@ -1,8 +1,8 @@
--- `zone::update::apply` meets its contract. Assumes nothing.
+-- `zone::editing::apply` meets its contract. Assumes nothing.
 use Rattle.zone.proofs.Applies.{removed}
 use borrow.Author.Needs.{needs}
-use Rattle.zone.proofs.update.apply.Statement.{statement}
-use Rattle.zone.proofs.update.apply.Tie as tie
+use Rattle.zone.proofs.editing.apply.Statement.{statement}
+use Rattle.zone.proofs.editing.apply.Tie as tie
 
 pub apply-spec : {M : Type 1} → statement M
 apply-spec =
