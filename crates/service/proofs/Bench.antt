@@ -1,10 +1,10 @@
--- Bench examples 1 to 10 of 01, and one of spelling, settled by one proof: each is computed with the definitions.
+-- The bench examples of 01, and some of its other rules, settled by one proof: each is computed with the definitions.
 use Prim.Native.Nat.{ℕ, _-_}
 use mathlib.Core.Bool.{true, false}
 use mathlib.Core.List.{List, [], _∷_, _++_, map}
 use mathlib.Core.Option.{Option, some}
 use mathlib.Core.Path.{_≡_, refl}
-use lib.ListN.{length, replicate}
+use lib.ListN.{length, take, drop, replicate}
 use Rattle.wire.specs.Field.{octets, field}
 use Rattle.wire.specs.Name.{labels, nameLength, isName, lower, sameOctets, sameName, endsIn, within}
 use Rattle.dso.specs.Header.{messageId, flags, isResponse, opcode, noRecords}
@@ -17,7 +17,14 @@ use Rattle.dso.specs.Judge.{
   judgment,
   isKeepalive,
   judged,
+  keepaliveType,
+  unsubscribeType,
+  reconfirmType,
+  place,
+  keepalive as judgeKeepalive,
   subscribe as judgeSubscribe,
+  unsubscribe as judgeUnsubscribe,
+  reconfirm as judgeReconfirm,
 }
 use Rattle.dso.specs.Response.{header, tlvOctets, tlvsOctets, framed, response, responseOctets}
 use Rattle.dso.specs.Match.{asksFor, asksType, asksClass}
@@ -40,16 +47,19 @@ use Rattle.push.specs.Change.{
 use Rattle.push.specs.List.{widest, alike, chosen, firsts, removals, additions, changes}
 use Rattle.push.specs.Octets.{changesOctets, pushMessage, pushOctets, pushOf, notified, changesIn}
 use Rattle.push.specs.Frames.{frameOf, framesIn, isUnidirectional, pushIn}
-use Rattle.session.specs.Clocks.{started, received, expired}
-use Rattle.session.specs.Subscriptions.{usesId, asksAlready, isFull}
-use Rattle.service.specs.State.{free, slotAt, fresh, lowestFree}
-use Rattle.service.specs.Answer.{opened, done, sent, ended}
+use Rattle.session.specs.Clocks.{started, received, granted, expired}
+use Rattle.session.specs.Subscriptions.{usesId, asksAlready, isFull, without}
+use Rattle.service.specs.State.{State, free, slotAt, fresh, lowestFree}
+use Rattle.service.specs.Answer.{Answer, opened, done, sent, ended, reconfirm, refused}
 use Rattle.service.specs.Checks.{refusalOf, leastOutput}
-use Rattle.service.specs.Message.{asked, subscribed, answered, messageEffect}
+use Rattle.service.specs.Message.{asked, subscribed, keptAlive, answered, messageEffect}
 use Rattle.service.specs.Call.{
+  Bytes,
   Call,
   Outcome,
   opens,
+  closes,
+  receives,
   ticks,
   running,
   start,
@@ -57,10 +67,18 @@ use Rattle.service.specs.Call.{
   openOutcome,
   effectOutcome,
   messageOutcome,
+  closeOutcome,
   batchOutcome,
   tickOutcome,
   passed,
   outcome,
+}
+use Rattle.service.specs.declared.refusal.Refusal.the-variants.{
+  NoSession,
+  TimeBackwards,
+  OutputTooShort,
+  AllOpen,
+  MessageTooLong,
 }
 use Rattle.service.specs.Reader.{bytesFor, pushesIn}
 use Rattle.service.proofs.Examples.{
@@ -79,9 +97,11 @@ use Rattle.service.proofs.Examples.{
   text,
   address6,
   bytes,
+  messageOf,
   subscribe,
   puts,
   deletes,
+  lent,
   message,
   batch,
   outcomes,
@@ -90,6 +110,7 @@ use Rattle.service.proofs.Examples.{
   server,
   ready,
   watched,
+  bytesIn,
   sent0,
   replyFlags,
   pushed,
@@ -123,10 +144,10 @@ oneTo17 = 1 ∷ 2 ∷ 3 ∷ 4 ∷ 5 ∷ 6 ∷ 7 ∷ 8 ∷ 9 ∷ 10 ∷ 11 ∷ 12
 
 -- What edits come to where records are held, and a client asked for all of a.shop.example; and what it is told.
 abbrev pub edited0 : List Record → List ℕ → Outcome
-edited0 held edits = outcome (watched held (subscribe 1 host typeAny ∷ [])) (batch edits)
+edited0 stored edits = outcome (watched stored (subscribe 1 host typeAny ∷ [])) (batch edits)
 
 abbrev pub told0 : List Record → List ℕ → Option (List (List Change))
-told0 held edits = pushed (edited0 held edits)
+told0 stored edits = pushed (edited0 stored edits)
 
 -- A record in capitals.
 abbrev pub inCapitals : Record → Record
@@ -139,10 +160,29 @@ capitals0 ttl =
     outcome (watched (address ∷ text ∷ []) (subscribe 1 hostInCapitals typeAny ∷ []))
     (batch (puts (inCapitals (withTtl ttl address) ∷ [])))
 
+-- All sessions opened at 6, and a message of 65,536 octets.
+abbrev pub answerOf : Call → Answer
+answerOf c = outcome (after server (replicate 4 (opens 6))) c .answer
+
+abbrev pub tooLong : Bytes
+tooLong = bytes (replicate 65536 0)
+
+-- A session that asked for all of a.shop.example.
+abbrev pub asking : State
+asking = watched [] (subscribe 1 host typeAny ∷ [])
+
+-- Sessions 0 and 1, and session 1 has asked.
+abbrev pub both : State
+both = after ready (opens 1000 ∷ [])
+
+abbrev pub asking1 : State
+asking1 = after both (receives 1000 1 (bytes paperMessage) lent ∷ [])
+
 pub record Bench : Type 0 where
   -- "Zone shop.example."
   pub starts : start zone ≡ running server
-  -- 1. "That run": its answers; and all of the output slice after the message, whose count is 62.
+  -- 1. "That run": the octets as they are; its answers; and all of the output slice after the message, whose count is 62.
+  pub taken : (bytes paperBatch .list ≡ paperBatch) × (bytes paperMessage .list ≡ paperMessage)
   pub run-answers : answers (outcomes server (opens 1000 ∷ batch paperBatch ∷ message paperMessage ∷ []))
       ≡ opened 0 ∷ done ∷ sent (62 ∷ 0 ∷ 0 ∷ 0 ∷ []) ∷ []
   pub run-octets : outcome (after server (opens 1000 ∷ batch paperBatch ∷ [])) (message paperMessage) .output
@@ -172,11 +212,39 @@ pub record Bench : Type 0 where
   -- 8. "Three AAAA, two leave: two single notices."
   pub two-singles : told0 (address6 1 ∷ address6 2 ∷ address6 3 ∷ []) (deletes (address6 1 ∷ address6 3 ∷ []))
       ≡ some ((removal (single host typeAaaa classIn (octets 16 1)) ∷ removal (single host typeAaaa classIn (octets 16 3)) ∷ []) ∷ [])
-  -- 9. "Delete and put the same record and TTL: no PUSH."
+  -- 9. "Delete and put the same record and TTL: no PUSH." With another TTL: one add.
   pub put-back : edited0 (address ∷ []) (deletes (address ∷ []) ++ puts (address ∷ [])) .answer ≡ done
+  pub put-back-otherwise : told0 (address ∷ []) (deletes (address ∷ []) ++ puts (withTtl 60 address ∷ []))
+      ≡ some ((addition (withTtl 60 address) ∷ []) ∷ [])
   -- 10. "Matched by A and by ANY: one add."
   pub one-add : pushed (outcome (watched [] (subscribe 1 host typeA ∷ subscribe 2 host typeAny ∷ [])) (batch (puts (address ∷ []))))
       ≡ some ((addition address ∷ []) ∷ [])
+  -- 11. "NOTAUTH flags are B009." The refused one isn't live.
+  pub not-auth : flagsFor (drop 5 zone) ≡ 0xB009
+  pub not-auth-live : subscriptionsOf (slotAt (outcome ready (message (subscribe 1 (drop 5 zone) typeA)) .next) 0) ≡ []
+  -- 12. "Keepalive reply data 00003A98 0000EA60", whatever was asked for.
+  pub keepalive-reply : sent0 (outcome ready (message (messageOf 1 keepaliveType (octets 8 0))))
+      ≡ octets 26 0x00180001b00000000000000000000001000800003a980000ea60
+  -- 13. "Time 5 after 6: answer 11." "Checks run 12, 11, 10, 18": of the faults of a call the first decides; "13 comes after 11".
+  pub order : map answerOf (receives 5 9 tooLong [] ∷ receives 5 9 tooLong lent ∷ receives 6 9 tooLong lent ∷ receives 6 0 tooLong lent ∷ [])
+      ≡ map refused (OutputTooShort ∷ TimeBackwards ∷ NoSession ∷ MessageTooLong ∷ [])
+  pub order-13 : map answerOf (opens 5 ∷ opens 6 ∷ []) ≡ map refused (TimeBackwards ∷ AllOpen ∷ [])
+  -- "Answering a unidirectional message" is an error: UNSUBSCRIBE is answer 1, and RECONFIRM 5, with the places of its parts.
+  pub unsubscribed : outcome asking (message (messageOf 0 unsubscribeType (octets 2 1))) .answer ≡ done
+  pub reconfirmed : outcome asking (message (messageOf 0 reconfirmType (host ++ octets 8 0x00010001c0000201))) .answer
+      ≡ reconfirm
+      (record {
+        name = place 16 16;
+        rtype = place 32 2;
+        class = place 34 2;
+        rdata = place 36 4;
+      })
+  -- "session s writes from s x 16,384": what session 1 is sent stands there, and session 0 is sent nothing.
+  pub own-reply : bytesIn (outcome both (receives 1000 1 (bytes paperMessage) lent)) 1 ≡ take 14 paperReply
+  pub own-push : map (bytesIn (outcome asking1 (batch paperBatch))) (0 ∷ 1 ∷ 2 ∷ 3 ∷ []) ≡ [] ∷ drop 14 paperReply ∷ [] ∷ [] ∷ []
+  -- "Freed sessions and places are used again; open takes the lowest free number." The new session has no subscription.
+  pub used-again : answers (outcomes asking (opens 1000 ∷ closes 1000 0 ∷ opens 1000 ∷ batch paperBatch ∷ []))
+      ≡ opened 1 ∷ done ∷ opened 0 ∷ done ∷ []
   -- "spelling is never a change": the held record put in capitals with TTL 60 keeps its place and spelling, and a client that
   -- asked in capitals is told one add; the same record and TTL in capitals is no change.
   pub spelled-store : capitals0 60 .next .store
@@ -185,10 +253,11 @@ pub record Bench : Type 0 where
   pub spelled-only : capitals0 120 .answer ≡ done
 
 pub bench : Bench
-unfolding octets field labels nameLength isName lower sameOctets sameName endsIn within messageId flags isResponse opcode noRecords tlvs tlvsFrom badForm formOf opening byType judgment isKeepalive judged judgeSubscribe header tlvOctets tlvsOctets framed response responseOctets asksFor asksType asksClass sameKey find held put remove size recordOctets readAfter readRecord matchesKey allowed overfull edit edited batchOf covers isTrue fieldsOf widest alike chosen firsts removals additions changes changesOctets pushMessage pushOctets pushOf notified changesIn frameOf framesIn isUnidirectional pushIn started received expired usesId asksAlready isFull fresh lowestFree refusalOf asked subscribed answered messageEffect start written openOutcome effectOutcome messageOutcome batchOutcome tickOutcome passed outcome bytesFor pushesIn bytes puts outcomes after
+unfolding octets field labels nameLength isName lower sameOctets sameName endsIn within messageId flags isResponse opcode noRecords tlvs tlvsFrom badForm formOf opening byType judgment isKeepalive judged judgeSubscribe judgeKeepalive judgeUnsubscribe judgeReconfirm header tlvOctets tlvsOctets framed response responseOctets asksFor asksType asksClass sameKey find held put remove size recordOctets readAfter readRecord matchesKey allowed overfull edit edited batchOf covers isTrue fieldsOf widest alike chosen firsts removals additions changes changesOctets pushMessage pushOctets pushOf notified changesIn frameOf framesIn isUnidirectional pushIn started received granted expired without usesId asksAlready isFull fresh lowestFree refusalOf asked subscribed keptAlive answered messageEffect start written openOutcome effectOutcome messageOutcome closeOutcome batchOutcome tickOutcome passed outcome bytesFor pushesIn bytes puts outcomes after
 bench =
     record {
       starts = refl;
+      taken = (refl, refl);
       run-answers = refl;
       run-octets = refl;
       label-63 = refl;
@@ -207,7 +276,18 @@ bench =
       two-rrsets = refl;
       two-singles = refl;
       put-back = refl;
+      put-back-otherwise = refl;
       one-add = refl;
+      not-auth = refl;
+      not-auth-live = refl;
+      keepalive-reply = refl;
+      order = refl;
+      order-13 = refl;
+      unsubscribed = refl;
+      own-reply = refl;
+      own-push = refl;
+      used-again = refl;
+      reconfirmed = refl;
       spelled-store = refl;
       spelled-push = refl;
       spelled-only = refl;

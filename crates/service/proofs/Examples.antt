@@ -88,11 +88,13 @@ low-small (b ∷ l) =
 unfoldable pub bytes : List ℕ → Bytes
 bytes l = record { list = map (λ (b : ℕ). b % 256) l; small = low-small l }
 
+-- A message: an ID, and one TLV.
+abbrev pub messageOf : ℕ → ℕ → List ℕ → List ℕ
+messageOf id kind value = header id unidirectionalFlags ++ tlvsOctets (record { kind = kind; value = value } ∷ [])
+
 -- A SUBSCRIBE message: an ID, a name, a type.
 abbrev pub subscribe : ℕ → List ℕ → ℕ → List ℕ
-subscribe id name rrtype =
-    header id unidirectionalFlags
-    ++ tlvsOctets (record { kind = subscribeType; value = name ++ (octets 2 rrtype ++ octets 2 classIn) } ∷ [])
+subscribe id name rrtype = messageOf id subscribeType (name ++ (octets 2 rrtype ++ octets 2 classIn))
 
 -- Edits: each record is put; each is deleted.
 unfoldable pub puts : List Record → List ℕ
@@ -138,10 +140,14 @@ ready = after server (opens 1000 ∷ [])
 abbrev pub watched : List Record → List (List ℕ) → State
 watched held messages = after ready (batch (puts held) ∷ map message messages)
 
--- ---- what session 0 sees
+-- ---- what a session is sent
 
+abbrev pub bytesIn : Outcome → ℕ → List ℕ
+bytesIn x s = bytesFor (x .answer) (x .output) s
+
+-- Session 0.
 abbrev pub sent0 : Outcome → List ℕ
-sent0 x = bytesFor (x .answer) (x .output) 0
+sent0 x = bytesIn x 0
 
 -- The flags of the first message.
 abbrev pub replyFlags : Outcome → ℕ

@@ -153,7 +153,7 @@ start-fresh zone st e = go (isName zone) e
     go true f = cc
     go false f = absurd (let z : _≡_ {A = ℕ} 0 1 = cc in omega arith)
 
-begun-related : (zone : List ℕ) (st : State) → start zone ≡ running st → Related (begun zone st)
+pub begun-related : (zone : List ℕ) (st : State) → start zone ≡ running st → Related (begun zone st)
 begun-related zone st e = rw (start-fresh zone st e) (fresh-related zone)
 
 pub run-related : (r : Run) → Related r → (calls : List Call) → Related (runOf r calls)
@@ -257,16 +257,14 @@ pushed-of r h (ticks t) e d s x l = absurd (let z : _≡_ {A = ℕ} 0 1 = cc in 
 
 -- ---- the theorem
 
+-- Of any run in which state and observer are related.
+pub holds-of : (r : Run) → Related r → (c : Call) → Holds r c
+holds-of r h c =
+    let k : Related (stepped r c) = step-kept r h c in
+    record { views = views-of (stepped r c) k; living = living-of (stepped r c) k; stores = k .stores; pushed = pushed-of r h c }
+
 -- Demand 3: for every zone's name with which a start answers 1, every list of calls from there, and every next call.
 pub demand-three : (zone : List ℕ) (st : State) → start zone ≡ running st → (calls : List Call) (c : Call)
     → Holds (runOf (begun zone st) calls) c
-demand-three zone st e calls c =
-    let r = runOf (begun zone st) calls in
-    let h : Related r = run-related (begun zone st) (begun-related zone st e) calls in
-    let k : Related (stepped r c) = step-kept r h c in
-    record {
-      views = views-of (stepped r c) k;
-      living = living-of (stepped r c) k;
-      stores = k .stores;
-      pushed = pushed-of r h c;
-    }
+demand-three zone st e calls =
+    holds-of (runOf (begun zone st) calls) (run-related (begun zone st) (begun-related zone st e) calls)

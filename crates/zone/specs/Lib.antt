@@ -8,3 +8,6 @@ pub mod Batch
 pub mod Fits
 pub mod Sound
 pub mod Table
+pub mod Update
+pub mod Edit
+pub mod Batches

@@ -1,23 +1,29 @@
 -- The store in lent memory: a count of records, and blocks of which each holds a record. Any numbers and any octets are
 -- a store: a count over 40 counts as 40, and a part is no longer than its place in the block.
-use Prim.Native.Nat.{ℕ, min, _*_}
+use Prim.Native.Nat.{ℕ, min, _+_, _*_}
 use mathlib.Core.Bool.{cond}
 use mathlib.Core.List.{List, [], _∷_, map}
 use mathlib.Core.Option.{Option, none, some}
 use lib.ListN.{drop}
 use Rattle.wire.specs.Field.{field}
 use Rattle.wire.specs.Part.{part}
-use Rattle.wire.specs.Name.{lowered, after}
+use Rattle.wire.specs.Name.{maxName, lowered, after}
 use Rattle.table.specs.Blocks.{blocks, textAt}
 use Rattle.zone.specs.Record.{Record, Key, keyOf, sameKey}
-use Rattle.zone.specs.Batch.{maxRecords}
+use Rattle.zone.specs.Batch.{maxRecords, maxRdata}
 use Rattle.zone.specs.declared.records.Found.{Found}
 use Rattle.zone.specs.declared.records.Found.the-variants.{At, Nothing}
 
--- A block: the length of the owner and of the RDATA, an octet each; type, class and TTL; 255 octets for the owner and 128
--- for the RDATA.
+-- A block: the length of the owner and of the RDATA, an octet each; type, class and TTL; room for the longest name and
+-- the longest RDATA.
+abbrev pub ownerAt : ℕ
+ownerAt = 10
+
+abbrev pub rdataAt : ℕ
+rdataAt = ownerAt + maxName
+
 abbrev pub blockSize : ℕ
-blockSize = 393
+blockSize = rdataAt + maxRdata
 
 abbrev pub areaSize : ℕ
 areaSize = maxRecords * blockSize
@@ -25,11 +31,11 @@ areaSize = maxRecords * blockSize
 unfoldable pub recOf : List ℕ → Record
 recOf b =
     record {
-      owner = textAt b 0 10;
+      owner = textAt b 0 ownerAt;
       rrtype = field 2 (drop 2 b);
       rrclass = field 2 (drop 4 b);
       ttl = field 4 (drop 6 b);
-      rdata = textAt b 1 265;
+      rdata = textAt b 1 rdataAt;
     }
 
 -- One block; past the end of the area nothing.

@@ -6,29 +6,37 @@ ghost use Rattle.zone.specs.Record.{keyOf, sameKey};
 ghost use Rattle.zone.specs.Batch.{maxRecords};
 ghost use Rattle.zone.specs.Table.{blockAt, recOf, keyFrom, recordsOf, indexOf, foundAt};
 
+// The most records, and the most octets of an owner and of RDATA.
 pub const RECORDS: usize = 40;
 
-pub const BLOCK: usize = 393;
+const MAX_NAME: usize = 255;
+
+pub const MAX_RDATA: usize = 128;
+
+// Where a block has its parts; the owner's length comes first.
+pub(crate) const OWNER_LENGTH: usize = 0;
+
+pub(crate) const RDATA_LENGTH: usize = 1;
+
+pub(crate) const RRTYPE: usize = 2;
+
+pub(crate) const RRCLASS: usize = 4;
+
+pub(crate) const TTL: usize = 6;
+
+pub(crate) const OWNER: usize = 10;
+
+pub(crate) const RDATA: usize = OWNER + MAX_NAME;
+
+pub const BLOCK: usize = RDATA + MAX_RDATA;
 
 pub const AREA: usize = RECORDS * BLOCK;
 
-// Where a block has its parts.
-pub const OWNER_LENGTH: usize = 0;
-
-pub const RDATA_LENGTH: usize = 1;
-
-pub const RRTYPE: usize = 2;
-
-pub const RRCLASS: usize = 4;
-
-pub const TTL: usize = 6;
-
-pub const OWNER: usize = 10;
-
-pub const RDATA: usize = 265;
+// The lent memory of a store.
+pub type Area = [u8; AREA];
 
 // A block of the area; past the last one nothing.
-pub fn block(area: &[u8; AREA], i: usize) -> &[u8]
+pub fn block(area: &Area, i: usize) -> &[u8]
     ensures { λ r. ⌜ now r ≡ blockAt (now (area .entry)) i ⌝ }
 {
     if RECORDS <= i {
@@ -67,7 +75,7 @@ pub fn rdata(block: &[u8]) -> &[u8]
     table::text(block, RDATA_LENGTH, RDATA)
 }
 
-fn same_octets(a: &[u8], b: &[u8]) -> bool
+pub fn same_octets(a: &[u8], b: &[u8]) -> bool
     ensures { λ r. ⌜ r ≡ sameOctets (now (a .entry)) (now (b .entry)) ⌝ }
 {
     if a.len() != b.len() {
@@ -113,7 +121,7 @@ pub fn clamped(count: usize) -> usize
 }
 
 pub fn find(
-    area: &[u8; AREA],
+    area: &Area,
     count: usize,
     name: &[u8],
     rrtype: u16,

@@ -47,16 +47,16 @@ fn put(pool: &Pool, random: &mut Random) -> Vec<u8> {
     edit(&name, pool::record_type(random), pool::record_class(random), ttl, &pool::rdata(random))
 }
 
-fn alter(record: &Record, ttl: u32, random: &mut Random) -> Vec<u8> {
+pub fn alter(record: &Record, ttl: u32, random: &mut Random) -> Vec<u8> {
     edit(&respelled(&record.name, random), record.rtype, record.class, ttl, &record.rdata)
 }
 
-fn delete(record: &Record, random: &mut Random) -> Vec<u8> {
+pub fn delete(record: &Record, random: &mut Random) -> Vec<u8> {
     alter(record, TTL_ONE, random)
 }
 
 /// Deletes of all records that are like one; at times one stays.
-fn delete_like(server: &Server, random: &mut Random, like: impl Fn(&Record) -> bool) -> Vec<u8> {
+pub fn delete_like(server: &Server, random: &mut Random, like: impl Fn(&Record) -> bool) -> Vec<u8> {
     let mut chosen: Vec<&Record> = server.records.iter().filter(|record| like(record)).take(16).collect();
     if random.once_in(4) && !chosen.is_empty() {
         chosen.remove(random.below(chosen.len()));

@@ -1,12 +1,13 @@
 //! The command line.
 
-use reference::{hex, kind_cases, name_cases, replay, script, selftest};
+use reference::{hex, kind_cases, match_cases, name_cases, push_cases, replay, script, selftest};
 use std::collections::HashMap;
 use std::io::{self, BufWriter, Read, Write};
 use std::process::ExitCode;
 
 const USAGE: &str = "usage: reference replay | script --seed N --lines N | kinds --seed N --count N | \
-names --seed N --in FILE --out FILE | selftest --seed N --calls N";
+matches --seed N --count N | names --seed N --in FILE --out FILE | pushes --seed N --in FILE --out FILE | \
+selftest --seed N --calls N";
 
 /// What stopped a sub-command.
 enum Stop {
@@ -54,11 +55,32 @@ fn kinds(options: Options) -> Result<ExitCode, Stop> {
     Ok(ExitCode::SUCCESS)
 }
 
+fn matches(options: Options) -> Result<ExitCode, Stop> {
+    let mut out = BufWriter::new(io::stdout().lock());
+    for case in match_cases::cases(options.number("--seed")?, options.number("--count")? as usize) {
+        let ((qtype, qclass), (rtype, class)) = (case.question, case.record);
+        write!(out, "{}\t{qtype}\t{qclass}\t", hex::write(&case.asked))?;
+        writeln!(out, "{}\t{rtype}\t{class}\t{}", hex::write(&case.name), case.answer())?;
+    }
+    out.flush()?;
+    Ok(ExitCode::SUCCESS)
+}
+
+/// Writes the input and the expected output of cases to their files.
+fn write_both(options: &Options, input: &str, output: &str) -> Result<ExitCode, Stop> {
+    std::fs::write(&options.0["--in"], input)?;
+    std::fs::write(&options.0["--out"], output)?;
+    Ok(ExitCode::SUCCESS)
+}
+
 fn names(options: Options) -> Result<ExitCode, Stop> {
     let cases = name_cases::cases(options.number("--seed")?);
-    std::fs::write(&options.0["--in"], cases.input)?;
-    std::fs::write(&options.0["--out"], cases.output)?;
-    Ok(ExitCode::SUCCESS)
+    write_both(&options, &cases.input, &cases.output)
+}
+
+fn pushes(options: Options) -> Result<ExitCode, Stop> {
+    let cases = push_cases::cases(options.number("--seed")?);
+    write_both(&options, &cases.input, &cases.output)
 }
 
 fn replay_input() -> Result<ExitCode, Stop> {
@@ -90,6 +112,8 @@ fn run(arguments: &[String]) -> Result<ExitCode, Stop> {
         "script" => write_script(Options::read(rest, &["--seed", "--lines"])?),
         "selftest" => test_itself(Options::read(rest, &["--seed", "--calls"])?),
         "kinds" => kinds(Options::read(rest, &["--seed", "--count"])?),
+        "matches" => matches(Options::read(rest, &["--seed", "--count"])?),
+        "pushes" => pushes(Options::read(rest, &["--seed", "--in", "--out"])?),
         "names" => names(Options::read(rest, &["--seed", "--in", "--out"])?),
         _ => Err(Stop::Usage),
     }

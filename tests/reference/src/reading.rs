@@ -71,7 +71,7 @@ impl<'a> Rest<'a> {
         Ok((tlv_type, self.take(usize::from(length))?.to_vec()))
     }
 
-    fn notice(&mut self) -> Result<Notice, String> {
+    pub fn notice(&mut self) -> Result<Notice, String> {
         let name = self.name()?;
         let (rtype, class, ttl) = (self.short()?, self.short()?, self.number(4)? as u32);
         let length = self.short()?;

@@ -1,0 +1,7 @@
+-- Laws of the server: its numbers and what they hold, the checks, starting, and the calls.
+pub mod States
+pub mod Vacancies
+pub mod Refusals
+pub mod Ticks
+pub mod Starts
+pub mod Outcomes

@@ -1,0 +1,37 @@
+-- What is brought to the shared checks, and what they say, in the service's terms.
+use Prim.Native.Nat.{ℕ}
+use mathlib.Core.Bool.{Bool, cond}
+use mathlib.Core.Option.{Option, none, some}
+use Rattle.service.specs.Checks as Service
+use Rattle.service.specs.declared.refusal.Refusal.{Refusal}
+use Rattle.service.specs.declared.refusal.Refusal.the-variants.{NoSession, TimeBackwards, OutputTooShort, MessageTooLong}
+use Rattle.server.specs.declared.checks.Given.{Given}
+use Rattle.server.specs.declared.checks.Given.the-variants.{Absent, Is}
+use Rattle.server.specs.declared.checks.Brought.{Brought}
+use Rattle.server.specs.declared.checks.Checked.{Checked}
+use Rattle.server.specs.declared.checks.Checked.the-variants.{Pass, Refuse}
+use Rattle.server.specs.declared.places.Vacant.{Vacant}
+use Rattle.server.specs.declared.places.Vacant.the-variants.{At, Nowhere}
+
+abbrev pub givenOf : Given → Option ℕ
+givenOf Absent = none
+givenOf (Is n) = some n
+
+abbrev pub broughtOf : Brought → Service.Brought
+broughtOf b =
+    record { output = givenOf (b .output); time = b .time; session = givenOf (b .session); message = givenOf (b .message) }
+
+abbrev pub refusedBy : Checked → Option Refusal
+refusedBy Pass = none
+refusedBy (Refuse r) = some r
+
+-- The first of the four that fails.
+unfoldable pub firstOf : Bool → Bool → Bool → Bool → Option Refusal
+firstOf short early absent long =
+    cond short (some OutputTooShort)
+    (cond early (some TimeBackwards) (cond absent (some NoSession) (cond long (some MessageTooLong) none)))
+
+-- Where a place is free.
+abbrev pub vacantOf : Vacant → Option ℕ
+vacantOf (At i) = some i
+vacantOf Nowhere = none

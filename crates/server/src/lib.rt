@@ -1,0 +1,20 @@
+// The server: its numbers, the checks that calls share, and the calls.
+mod answer;
+mod calls;
+mod checks;
+mod places;
+mod starting;
+mod state;
+mod ticking;
+
+pub use answer::Answer;
+pub use answer::Counts;
+pub use answer::Flags;
+pub use answer::Outcome;
+pub use calls::close;
+pub use calls::open;
+pub use calls::tick;
+pub use starting::Started;
+pub use starting::start;
+pub use state::Server;
+pub use state::Session;

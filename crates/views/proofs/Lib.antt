@@ -1,0 +1,2 @@
+-- Demand 3 for the code.
+pub mod Theorem

@@ -1,0 +1,1 @@
+// Demand 3 stated about the calls' own promises; no code.

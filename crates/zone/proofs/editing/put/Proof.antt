@@ -1,0 +1,19 @@
+-- `zone::editing::put` meets its contract. Assumes nothing.
+use Rattle.zone.proofs.Applies.{put-held, put-full, put-new}
+use borrow.Author.Needs.{needs}
+use Rattle.zone.proofs.editing.put.Statement.{statement}
+use Rattle.zone.proofs.editing.put.Tie as tie
+
+pub put-spec : {M : Type 1} → statement M
+put-spec =
+    tie.close
+    (tie.spec
+    (λ c κs. search needs)
+    (λ c. search needs)
+    (λ c κs. search needs)
+    (λ c. put-held _ _ _ (c .before .before .before .before .before .before .before .before .pre .0) _ (c .before .before .before .before .find .ensures) (c .before .before .before .before .before .before .before .before .pre .3) _ _ (c .before .before .enum-told .given .1) (c .set-ttls .ensures))
+    (λ c. search needs)
+    (λ c. put-full _ _ _ (c .before .before .before .before .before .before .before .pre .0) _ (c .before .before .before .find .ensures) (c .before .before .before .before .before .before .before .pre .3) (c .before .enum-told2 .given .1) (c .if1 .taken))
+    (λ c κs. search needs)
+    (λ c. search needs)
+    (λ c. put-new _ _ _ (c .before .before .before .before .before .before .before .before .before .pre .0) _ (c .before .before .before .before .before .find .ensures) (c .before .before .before .before .before .before .before .before .before .pre .3) _ (c .before .before .before .enum-told2 .given .1) (c .before .before .if1 .left) (c .append .ensures)))

@@ -1,0 +1,17 @@
+-- `zone::editing::remove_if` meets its contract. Assumes nothing.
+use native.Mathlib.Omega.{arith}
+use Rattle.zone.proofs.Updates.{droppedIf-true, droppedIf-false}
+use borrow.Author.Needs.{needs}
+use Rattle.zone.proofs.editing.remove_if.Statement.{statement}
+use Rattle.zone.proofs.editing.remove_if.Tie as tie
+
+pub remove-if-spec : {M : Type 1} → statement M
+remove-if-spec =
+    tie.close
+    (tie.spec
+    (λ c κs. search needs)
+    (λ c κs. search needs)
+    (λ c κs. search needs)
+    (λ c. search needs)
+    (λ c. droppedIf-true _ _ _ _ _ _ _ (c .before .before .before .before .block .ensures) (c .before .before .before .has-key .ensures) (c .before .before .if1 .taken) (c .before .before .before .before .before .before .before .before .pre .0) (c .close-gap .ensures))
+    (λ c. search droppedIf-false))
