@@ -1,13 +1,13 @@
 -- Laws of the store in lent memory: its blocks, keys, the search for a key.
-use Prim.Native.Nat.{ℕ, zero, suc, min, _+_, _*_, _≤_, _<_}
+use Prim.Native.Nat.{ℕ, suc, min, _+_, _*_, _≤_, _<_}
 use mathlib.Core.Path.{_≡_, refl, sym, ap, ap₂, _∙_}
-use mathlib.Core.Bool.{Bool, true, false, cond, not, _&&_}
-use mathlib.Core.List.{List, [], _∷_, _++_, map}
-use mathlib.Core.Option.{Option, none, some}
+use mathlib.Core.Bool.{Bool, true, false, cond, _&&_}
+use mathlib.Core.List.{List, []}
+use mathlib.Core.Option.{some}
 use native.Mathlib.Numerals.{add-one}
 use native.Mathlib.Omega.{arith}
 use lib.ListN.{length, take, drop, getD, length-map, List·getD-map, drop-of-length-le}
-use lib.Seq.{drop-cons, take-nil}
+use lib.Seq.{drop-cons}
 use lib.Dec.{eqb}
 use borrow.Author.Tests.{eq-eqb, ne-eqb}
 use Rattle.wire.specs.Field.{field}
@@ -19,7 +19,6 @@ use Rattle.table.proofs.Blocks.{length-blocks, blocks-at}
 use Rattle.zone.specs.Record.{Record, Key, keyOf, sameKey}
 use Rattle.zone.specs.Batch.{maxRecords}
 use Rattle.zone.specs.Table.{blockSize, areaSize, blockAt, recOf, recordsOf, keyFrom, indexOf, foundAt}
-use Rattle.zone.specs.declared.records.Found.{Found}
 use Rattle.zone.specs.declared.records.Found.the-variants.{At, Nothing}
 use Rattle.zone.proofs.Lists.{never, clash}
 use Rattle.zone.proofs.Keys.{sameKey-true}
