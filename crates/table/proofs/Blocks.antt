@@ -57,6 +57,11 @@ module _ {A B : Type 0} (f : A → B) where
   map-cut zero (x ∷ l) = refl
   map-cut (suc i) (x ∷ l) = ap (λ (k : List B). f x ∷ k) (map-cut i l)
 
+  pub take-map : (n : ℕ) (l : List A) → take n (map f l) ≡ map f (take n l)
+  take-map zero l = refl
+  take-map (suc n) [] = refl
+  take-map (suc n) (x ∷ l) = ap (λ (k : List B). f x ∷ k) (take-map n l)
+
   pub map-set : (l : List A) (i : ℕ) (x : A) → map f (set l i x) ≡ set (map f l) i (f x)
   map-set [] zero x = refl
   map-set [] (suc i) x = refl
