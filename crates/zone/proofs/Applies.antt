@@ -1,5 +1,5 @@
 -- Laws of one edit applied to the store in lent memory, and of the index of a key.
-use Prim.Native.Nat.{ℕ, zero, suc, min, _+_, _≤_, _<_}
+use Prim.Native.Nat.{ℕ, suc, _+_, _≤_, _<_}
 use mathlib.Core.Path.{_≡_, refl, sym, ap, ap₂, _∙_, subst}
 use mathlib.Core.Bool.{Bool, true, false, cond, not, _&&_, _||_}
 use mathlib.Core.List.{List, [], _∷_, _++_, map}
@@ -18,10 +18,9 @@ use Rattle.zone.specs.Store.{find, isSome, held, setIf, put, remove}
 use Rattle.zone.specs.Sound.{distinct}
 use Rattle.zone.specs.Batch.{maxRecords, maxTtl, isPut, overfull, edit}
 use Rattle.zone.specs.Table.{recordsOf, indexOf, foundAt}
-use Rattle.zone.specs.Update.{storeOf, countOf, applied, AppliedAs}
+use Rattle.zone.specs.Update.{applied, AppliedAs}
 use Rattle.zone.specs.declared.records.Found.{Found}
 use Rattle.zone.specs.declared.records.Found.the-variants.{At, Nothing}
-use Rattle.zone.specs.declared.editing.Applied.{Applied}
 use Rattle.zone.specs.declared.editing.Applied.the-variants.{Count, Full}
 use Rattle.zone.proofs.Stores.{held-cons, none-held, find-alike, find-apart, remove-absent, distinct-head, distinct-tail}
 use Rattle.zone.proofs.Keys.{sameKey-true}

@@ -1,6 +1,6 @@
 -- A record added to the store in lent memory: its block is filled, and nothing before it changes.
 use Prim.Native.Nat.{ℕ, _+_, _*_, _^_, _≤_, _<_}
-use mathlib.Core.Path.{_≡_, refl, sym, ap, ap₂, _∙_, subst}
+use mathlib.Core.Path.{_≡_, refl, sym, ap, ap₂, _∙_}
 use mathlib.Core.List.{List, [], _∷_, _++_, map, map-append}
 use native.Mathlib.Nat.{add-zero}
 use native.Mathlib.Numerals.{add-one}
@@ -17,7 +17,7 @@ use Rattle.zone.specs.Record.{Record}
 use Rattle.zone.specs.Batch.{maxRecords}
 use Rattle.zone.specs.Table.{blockSize, areaSize, blockAt, recOf, recordsOf, recordFrom}
 use Rattle.zone.specs.Update.{numbered}
-use Rattle.zone.proofs.Written.{Write, writes, field-kept, part-kept, field-here, octet-field}
+use Rattle.zone.proofs.Written.{Write, field-kept, part-kept, field-here, octet-field}
 use Rattle.zone.proofs.Updates.{records-plain, length-block}
 
 -- Nothing before block n has changed, and that block is b.

@@ -1,13 +1,14 @@
 -- Laws of the store in lent memory: its blocks, keys, the search for a key.
-use Prim.Native.Nat.{ℕ, zero, suc, min, _+_, _*_, _≤_, _<_}
+use Prim.Native.Nat.{ℕ, suc, min, _+_, _*_, _≤_, _<_}
 use mathlib.Core.Path.{_≡_, refl, sym, ap, ap₂, _∙_}
-use mathlib.Core.Bool.{Bool, true, false, cond, not, _&&_}
-use mathlib.Core.List.{List, [], _∷_, _++_, map}
-use mathlib.Core.Option.{Option, none, some}
+use mathlib.Core.Bool.{Bool, true, false, cond, _&&_}
+use mathlib.Core.List.{List, [], _∷_, map}
+use mathlib.Core.Option.{some}
+use native.Mathlib.Nat.{min-eq-left}
 use native.Mathlib.Numerals.{add-one}
 use native.Mathlib.Omega.{arith}
 use lib.ListN.{length, take, drop, getD, length-map, List·getD-map, drop-of-length-le}
-use lib.Seq.{drop-cons, take-nil}
+use lib.Seq.{drop-cons}
 use lib.Dec.{eqb}
 use borrow.Author.Tests.{eq-eqb, ne-eqb}
 use Rattle.wire.specs.Field.{field}
@@ -15,11 +16,10 @@ use Rattle.wire.specs.Part.{part}
 use Rattle.wire.specs.Name.{after, lowered, sameOctets, sameName}
 use Rattle.wire.proofs.Names.{after-zero, after-after, sameOctets-true, sameOctets-of}
 use Rattle.table.specs.Blocks.{blocks}
-use Rattle.table.proofs.Blocks.{length-blocks, blocks-at}
+use Rattle.table.proofs.Blocks.{length-blocks, blocks-at, take-blocks, take-map}
 use Rattle.zone.specs.Record.{Record, Key, keyOf, sameKey}
 use Rattle.zone.specs.Batch.{maxRecords}
 use Rattle.zone.specs.Table.{blockSize, areaSize, blockAt, recOf, recordsOf, keyFrom, indexOf, foundAt}
-use Rattle.zone.specs.declared.records.Found.{Found}
 use Rattle.zone.specs.declared.records.Found.the-variants.{At, Nothing}
 use Rattle.zone.proofs.Lists.{never, clash}
 use Rattle.zone.proofs.Keys.{sameKey-true}
@@ -129,6 +129,25 @@ pub records-at : (n : ℕ) (a : List ℕ) (i : ℕ) → i < min n maxRecords →
 unfolding recordsOf
 records-at n a i h =
     List·getD-map recOf (blocks blockSize (min n maxRecords) a) i [] ∙ ap recOf (blocks-at blockSize (min n maxRecords) a i h)
+
+-- For loops over a store: the next record, those before a place, none at all.
+pub records-next : (n : ℕ) (a : List ℕ) (i : ℕ) → i < min n maxRecords
+    → drop i (recordsOf n a) ≡ recOf (blockAt a i) ∷ drop (suc i) (recordsOf n a)
+records-next n a i h =
+    drop-cons (recordsOf n a) i noRecord (omega (arith, length-records n a))
+    ∙ ap (λ (r : Record). r ∷ drop (suc i) (recordsOf n a)) (records-at n a i h)
+
+pub records-take : (k n : ℕ) (a : List ℕ) → k ≤ n → n ≤ maxRecords → take k (recordsOf n a) ≡ recordsOf k a
+unfolding recordsOf
+records-take k n a h m =
+    let l : k ≤ maxRecords = omega arith in
+    take-map recOf k (blocks blockSize (min n maxRecords) a)
+    ∙ ap (map recOf) (take-blocks blockSize k (min n maxRecords) a (omega (arith, min-eq-left m)))
+    ∙ ap (λ (j : ℕ). map recOf (blocks blockSize j a)) (sym (min-eq-left l))
+
+pub records-none : (a : List ℕ) → recordsOf 0 a ≡ []
+unfolding recordsOf blocks
+records-none a = refl
 
 -- ---- the search for a key
 

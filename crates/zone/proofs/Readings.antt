@@ -8,7 +8,7 @@ use native.Mathlib.Omega.{arith}
 use lib.ListN.{length, take, drop, length-drop}
 use lib.Seq.{drop-drop, length-take-le}
 use lib.Dec.{leb, eqb}
-use borrow.Author.Tests.{le-leb, lt-leb, leb-true, eq-eqb, ne-eqb}
+use borrow.Author.Tests.{le-leb, lt-leb, eq-eqb, ne-eqb}
 use Rattle.wire.specs.Field.{field}
 use Rattle.wire.specs.Part.{part}
 use Rattle.wire.specs.Name.{nameLength, within}
@@ -19,10 +19,9 @@ use Rattle.wire.proofs.Names.{nameLength-pos, nameLength-le}
 use Rattle.zone.specs.Record.{Record}
 use Rattle.dso.specs.Judge.{any}
 use Rattle.zone.specs.Layout.{fixedSize, size, readRecord}
-use Rattle.zone.specs.Batch.{maxTtl, removeTtl, maxRdata, isPut, isPlain, allowed}
+use Rattle.zone.specs.Batch.{maxTtl, removeTtl, maxRdata, isPlain, allowed}
 use Rattle.zone.specs.Table.{recordFrom}
 use Rattle.zone.specs.Edit.{editOf, recordOf, editAt, ttlMay, checkedAt}
-use Rattle.zone.specs.declared.BatchFault.{BatchFault}
 use Rattle.zone.specs.declared.BatchFault.the-variants.{BadValue, Unreadable}
 use Rattle.zone.specs.declared.reading.Edit.{Edit}
 use Rattle.zone.specs.declared.reading.EditReading.{EditReading}

@@ -1,13 +1,13 @@
 -- Laws of the steps of a batch in lent memory, and of the loop over them.
-use Prim.Native.Nat.{ℕ, zero, suc, min, _+_, _-_, _≤_, _<_}
-use mathlib.Core.Path.{_≡_, refl, sym, ap, ap₂, _∙_, subst}
+use Prim.Native.Nat.{ℕ, suc, min, _+_, _-_, _≤_, _<_}
+use mathlib.Core.Path.{_≡_, refl, sym, ap, ap₂, _∙_}
 use mathlib.Core.Bool.{Bool, true, false, cond}
-use mathlib.Core.List.{List, [], map}
+use mathlib.Core.List.{List, map}
 use mathlib.Core.Option.{Option, none, some}
 use native.Mathlib.Nat.{min-eq-left, min-le-right}
 use native.Mathlib.Omega.{arith}
-use lib.ListN.{length, take, drop, length-drop, drop-of-length-le}
-use lib.Seq.{sets, length-sets, drop-drop, take-all, length-take-le}
+use lib.ListN.{length, drop, length-drop, drop-of-length-le}
+use lib.Seq.{sets, length-sets, drop-drop, take-all}
 use Rattle.wire.specs.Part.{part}
 use Rattle.wire.specs.Name.{maxName}
 use Rattle.wire.proofs.Names.{nameLength-max}
@@ -15,10 +15,10 @@ use Rattle.wire.proofs.Writes.{take-written}
 use Rattle.table.specs.Blocks.{blocks}
 use Rattle.zone.specs.Record.{Record}
 use Rattle.zone.specs.Layout.{fixedSize, size, readRecord}
-use Rattle.zone.specs.Batch.{maxRecords, maxEdits, maxRdata, allowed, overfull, edit, Edited, stored, faulty, edited, batchOf}
+use Rattle.zone.specs.Batch.{maxRecords, maxEdits, maxRdata, allowed, overfull, edit, Edited, faulty, edited, batchOf}
 use Rattle.zone.specs.Table.{blockSize, recOf, recordsOf, recordFrom}
 use Rattle.zone.specs.Edit.{editOf, recordOf, checkedAt}
-use Rattle.zone.specs.Update.{storeOf, countOf, applied, AppliedAs}
+use Rattle.zone.specs.Update.{storeOf, countOf, applied}
 use Rattle.zone.specs.Batches.{onward, counted, Steps, editedOf}
 use Rattle.zone.specs.declared.BatchFault.{BatchFault}
 use Rattle.zone.specs.declared.BatchFault.the-variants.{TooManyEdits, Unreadable, BadValue, StoreFull}
@@ -29,7 +29,6 @@ use Rattle.zone.specs.declared.editing.Applied.{Applied}
 use Rattle.zone.specs.declared.editing.Applied.the-variants.{Count, Full}
 use Rattle.zone.specs.declared.editing.Stepped.{Stepped}
 use Rattle.zone.specs.declared.editing.Stepped.the-variants.{Next, Stop}
-use Rattle.zone.specs.declared.editing.BatchResult.{BatchResult}
 use Rattle.zone.specs.declared.editing.BatchResult.the-variants.{Stored, Faulty}
 use Rattle.zone.proofs.Goods.{allowed-parts}
 use Rattle.zone.proofs.Layouts.{readRecord-stands, stands-owner}

@@ -1,14 +1,14 @@
 -- Laws of changes of the store in lent memory: a TTL set, a record gone, a record added.
-use Prim.Native.Nat.{ℕ, zero, suc, min, _+_, _-_, _*_, _^_, _≤_, _<_}
-use mathlib.Core.Path.{_≡_, refl, sym, ap, ap₂, _∙_, subst}
+use Prim.Native.Nat.{ℕ, suc, _+_, _-_, _*_, _^_, _≤_, _<_}
+use mathlib.Core.Path.{_≡_, refl, sym, ap, ap₂, _∙_}
 use mathlib.Core.Bool.{Bool, true, false, cond, not}
-use mathlib.Core.List.{List, [], _∷_, _++_, append-nil, append-assoc, map, map-append}
-use native.Mathlib.Nat.{min-eq-left, zero-add, add-zero}
+use mathlib.Core.List.{List, [], _∷_, _++_, append-nil, append-assoc, map}
+use native.Mathlib.Nat.{min-eq-left}
 use native.Mathlib.Numerals.{add-one}
 use native.Mathlib.Omega.{arith}
-use lib.ListN.{length, take, drop, getD, set, length-drop, length-take, length-set, drop-of-length-le}
-use lib.Seq.{sets, length-sets, take-suc, take-suc-set, take-all, set-getD, drop-set-lt, drop-cons, length-take-le}
-use Rattle.wire.specs.Field.{field, octets}
+use lib.ListN.{length, take, drop, getD, set, length-drop, drop-of-length-le}
+use lib.Seq.{sets, take-suc, take-suc-set, take-all, set-getD, drop-set-lt, drop-cons, length-take-le}
+use Rattle.wire.specs.Field.{octets}
 use Rattle.wire.proofs.Fields.{length-octets}
 use Rattle.wire.proofs.Writes.{drop-sets-after, field-before, field-written}
 use Rattle.table.specs.Blocks.{blocks, cut, slid, textAt}

@@ -6,10 +6,9 @@ use wire::field16;
 use wire::field32;
 use wire::name_at;
 ghost use mathlib.Core.Path.{_≡_};
-ghost use Rattle.zone.specs.Batch.{isPut, isPlain, removeTtl, allowed as allowedIn};
+ghost use Rattle.zone.specs.Batch.{isPlain, allowed as allowedIn};
 ghost use Rattle.zone.specs.Table.{recordFrom};
 ghost use Rattle.zone.specs.Edit.{editAt, ttlMay, checkedAt};
-ghost use lib.Dec.{eqb};
 
 // A TTL up to this one puts; the other one removes.
 pub(crate) const MAX_TTL: u32 = 0x7fff_ffff;

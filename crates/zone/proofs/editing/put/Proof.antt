@@ -1,4 +1,5 @@
 -- `zone::editing::put` meets its contract. Assumes nothing.
+use native.Mathlib.Omega.{arith}
 use Rattle.zone.proofs.Applies.{put-held, put-full, put-new}
 use borrow.Author.Needs.{needs}
 use Rattle.zone.proofs.editing.put.Statement.{statement}
@@ -13,7 +14,7 @@ put-spec =
     (λ c κs. search needs)
     (λ c. put-held _ _ _ (c .before .before .before .before .before .before .before .before .pre .0) _ (c .before .before .before .before .find .ensures) (c .before .before .before .before .before .before .before .before .pre .3) _ _ (c .before .before .enum-told .given .1) (c .set-ttls .ensures))
     (λ c. search needs)
-    (λ c. put-full _ _ _ (c .before .before .before .before .before .before .before .pre .0) _ (c .before .before .before .find .ensures) (c .before .before .before .before .before .before .before .pre .3) (c .before .enum-told2 .given .1) (c .if1 .taken))
+    (λ c. put-full _ (c .before .before .before .before .before .before .before .args .n) _ (c .before .before .before .before .before .before .before .pre .0) _ (c .before .before .before .find .ensures) (c .before .before .before .before .before .before .before .pre .3) (c .before .enum-told2 .given .1) (omega arith))
     (λ c κs. search needs)
     (λ c. search needs)
-    (λ c. put-new _ _ _ (c .before .before .before .before .before .before .before .before .before .pre .0) _ (c .before .before .before .before .before .find .ensures) (c .before .before .before .before .before .before .before .before .before .pre .3) _ (c .before .before .before .enum-told2 .given .1) (c .before .before .if1 .left) (c .append .ensures)))
+    (λ c. put-new _ (c .before .before .before .before .before .before .before .before .before .args .n) _ (c .before .before .before .before .before .before .before .before .before .pre .0) _ (c .before .before .before .before .before .find .ensures) (c .before .before .before .before .before .before .before .before .before .pre .3) _ (c .before .before .before .enum-told2 .given .1) (omega arith) (c .append .ensures)))

@@ -1,5 +1,4 @@
 -- `zone::editing::remove_if` meets its contract. Assumes nothing.
-use native.Mathlib.Omega.{arith}
 use Rattle.zone.proofs.Updates.{droppedIf-true, droppedIf-false}
 use borrow.Author.Needs.{needs}
 use Rattle.zone.proofs.editing.remove_if.Statement.{statement}
