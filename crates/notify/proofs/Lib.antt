@@ -1,0 +1,4 @@
+-- Laws of change notifications in octets.
+pub mod Removals
+pub mod Marked
+pub mod Lookups
