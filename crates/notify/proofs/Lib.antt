@@ -1,4 +1,6 @@
 -- Laws of change notifications in octets.
+pub mod Records
 pub mod Removals
 pub mod Marked
 pub mod Lookups
+pub mod Choices

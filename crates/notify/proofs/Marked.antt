@@ -3,10 +3,11 @@ use Prim.Native.Nat.{ℕ, zero, suc, min, _+_, _-_, _≤_, _<_}
 use mathlib.Core.Path.{_≡_, refl, sym, ap, ap₂, _∙_}
 use mathlib.Core.Bool.{Bool, true, false, cond, not, _&&_, _||_, Bool·beq}
 use mathlib.Core.List.{List, [], _∷_, _++_, map, map-append}
+use native.Mathlib.Nat.{add-zero}
 use native.Mathlib.Numerals.{add-one}
 use native.Mathlib.Omega.{arith}
 use lib.ListN.{length, take, drop, getD, set, length-map, length-set, List·getD-map, drop-of-length-le}
-use lib.Seq.{drop-cons, take-nil, take-suc, take-suc-set, take-take, take-all}
+use lib.Seq.{drop-cons, drop-drop, getD-drop, take-suc, take-suc-set, take-take, take-all}
 use lib.Dec.{eqb}
 use borrow.Author.Tests.{eq-eqb, ne-eqb}
 use Rattle.zone.specs.Lists.{onlyIf, keep, anyOf, allOf}
@@ -17,7 +18,8 @@ use Rattle.zone.proofs.Lists.{anyOf-of-map}
 use Rattle.zone.proofs.Memory.{noRecord, length-records, records-at}
 use Rattle.push.specs.Change.{Removal, covers}
 use Rattle.push.specs.List.{alike, chosen, firsts}
-use Rattle.notify.specs.Marks.{removalAt, kindOf, isMarked, markedBy, marked, removalOf, removalsOf, toldApart, kindMark, heads, sent, bit}
+use Rattle.notify.proofs.Records.{records-end, records-next}
+use Rattle.notify.specs.Marks.{removalAt, kindOf, isMarked, firstMark, markedBy, marked, removalOf, removalsOf, toldApart, kindMark, heads, sent, bit}
 
 -- ---- one mark
 
@@ -26,6 +28,9 @@ mark-none m h = ap not (eq-eqb m 0 h)
 
 pub mark-some : (m : ℕ) → (m ≡ 0 → ⊥) → isMarked m ≡ true
 mark-some m h = ap not (ne-eqb m 0 h)
+
+pub mark-at : (ms : List ℕ) (i : ℕ) → firstMark (drop i ms) ≡ getD ms i 0
+mark-at ms i = getD-drop i ms 0 0 ∙ ap (λ (j : ℕ). getD ms j 0) (add-zero i)
 
 -- ---- a loop that fills marks in
 
@@ -48,8 +53,8 @@ filled-all g m i n s e h =
 
 -- What is marked looks at as many marks as there are records.
 pub markedBy-take : {A : Type 0} (f : ℕ → Record → A) (ms : List ℕ) (l : List Record) → markedBy f (take (length l) ms) l ≡ markedBy f ms l
-markedBy-take f [] l = ap (λ (k : List ℕ). markedBy f k l) (take-nil (length l))
-markedBy-take f (m ∷ ms) [] = refl
+markedBy-take f ms [] = refl
+markedBy-take f [] (r ∷ l) = refl
 markedBy-take f (m ∷ ms) (r ∷ l) = ap (onlyIf (isMarked m) (f m r)) (markedBy-take f ms l)
 
 -- Records marked by a test.
@@ -123,26 +128,19 @@ module _ (m w : Removal) (k : Key) where
 
 -- None of the first i marked records tells two removals apart.
 pub record Agreed (m w : Removal) (ms : List ℕ) (l : List Record) (i : ℕ) : Type 0 where
-  pub long : length ms ≡ maxRecords
   pub rest : alike (marked ms l) m w ≡ alike (marked (drop i ms) (drop i l)) m w
 
-pub agreed-none : (m w : Removal) (ms : List ℕ) (l : List Record) → length ms ≡ maxRecords → Agreed m w ms l 0
-agreed-none m w ms l h = record { long = h; rest = refl }
+pub agreed-none : (m w : Removal) (ms : List ℕ) (l : List Record) → Agreed m w ms l 0
+agreed-none m w ms l = record { rest = refl }
 
-alike-cons : (m w : Removal) (x : ℕ) (ms : List ℕ) (r : Record) (l : List Record)
-    → alike (marked (x ∷ ms) (r ∷ l)) m w ≡ (not (toldApart x m w (keyOf r)) && alike (marked ms l) m w)
+alike-cons : (m w : Removal) (ms : List ℕ) (r : Record) (l : List Record)
+    → alike (marked ms (r ∷ l)) m w ≡ (not (toldApart (firstMark ms) m w (keyOf r)) && alike (marked (drop 1 ms) l) m w)
 unfolding alike marked toldApart
-alike-cons m w x ms r l = go (isMarked x) (Bool·beq (covers m (keyOf r)) (covers w (keyOf r))) refl
+alike-cons m w ms r l = go (isMarked (firstMark ms)) (Bool·beq (covers m (keyOf r)) (covers w (keyOf r))) refl
   where
-    same : Record → Bool
-    same r = Bool·beq (covers m (keyOf r)) (covers w (keyOf r))
-
-    rest : List Record
-    rest = markedBy (λ (m : ℕ) (r : Record). r) ms l
-
     go : (b e : Bool) → Bool·beq (covers m (keyOf r)) (covers w (keyOf r)) ≡ e
-        → allOf (λ (r : Record). Bool·beq (covers m (keyOf r)) (covers w (keyOf r))) (onlyIf b r (markedBy (λ (m : ℕ) (r : Record). r) ms l))
-        ≡ (not (b && not e) && allOf (λ (r : Record). Bool·beq (covers m (keyOf r)) (covers w (keyOf r))) (markedBy (λ (m : ℕ) (r : Record). r) ms l))
+        → allOf (λ (r : Record). Bool·beq (covers m (keyOf r)) (covers w (keyOf r))) (onlyIf b r (markedBy (λ (m : ℕ) (r : Record). r) (drop 1 ms) l))
+        ≡ (not (b && not e) && allOf (λ (r : Record). Bool·beq (covers m (keyOf r)) (covers w (keyOf r))) (markedBy (λ (m : ℕ) (r : Record). r) (drop 1 ms) l))
     go true true h = rw h
     go true false h = rw h
     go false true h = refl
@@ -150,39 +148,30 @@ alike-cons m w x ms r l = go (isMarked x) (Bool·beq (covers m (keyOf r)) (cover
 
 alike-end : (m w : Removal) (ms : List ℕ) → alike (marked ms []) m w ≡ true
 unfolding alike marked
-alike-end m w [] = refl
-alike-end m w (x ∷ ms) = refl
+alike-end m w ms = refl
 
 module _ (m w : Removal) (ms : List ℕ) (count : ℕ) (a : List ℕ) (i : ℕ) (s : Agreed m w ms (recordsOf count a) i) (n : ℕ)
     (e : n ≡ min count maxRecords) where
   pub agreed-all : n ≤ i → true ≡ alike (marked ms (recordsOf count a)) m w
   agreed-all h =
-      sym (s .rest
-      ∙ ap (λ (l : List Record). alike (marked (drop i ms) l) m w)
-      (drop-of-length-le (recordsOf count a) {i = i} (omega (arith, length-records count a)))
+      sym (s .rest ∙ ap (λ (l : List Record). alike (marked (drop i ms) l) m w) (records-end count a i n e h)
       ∙ alike-end m w (drop i ms))
 
   module _ (h : i < n) (b : List ℕ) (f : b ≡ blockAt a i) (t : Bool) (g : t ≡ toldApart (getD ms i 0) m w (keyOf (recOf b))) where
-    next-alike : alike (marked ms (recordsOf count a)) m w
-        ≡ (not t && alike (marked (drop (suc i) ms) (drop (suc i) (recordsOf count a))) m w)
+    left : Bool
+    left = alike (marked (drop (i + 1) ms) (drop (i + 1) (recordsOf count a))) m w
+
+    next-alike : alike (marked ms (recordsOf count a)) m w ≡ (not t && left)
+    unfolding left
     next-alike =
-        let l : List Record = recordsOf count a in
-        let q : getD l i noRecord ≡ recOf b = records-at count a i (omega arith) ∙ ap recOf (sym f) in
-        s .rest
-        ∙ ap₂ (λ (x : List ℕ) (y : List Record). alike (marked x y) m w) (drop-cons ms i 0 (omega (arith, s .long)))
-        (drop-cons l i noRecord (omega (arith, length-records count a)))
-        ∙ alike-cons m w (getD ms i 0) (drop (suc i) ms) (getD l i noRecord) (drop (suc i) l)
-        ∙ ap (λ (x : Bool). not x && alike (marked (drop (suc i) ms) (drop (suc i) l)) m w)
-        (ap (λ (r : Record). toldApart (getD ms i 0) m w (keyOf r)) q ∙ sym g)
+        s .rest ∙ ap (λ (l : List Record). alike (marked (drop i ms) l) m w) (records-next count a i n e h b f)
+        ∙ alike-cons m w (drop i ms) (recOf b) (drop (i + 1) (recordsOf count a))
+        ∙ ap₂ (λ (x : Bool) (y : List ℕ). not x && alike (marked y (drop (i + 1) (recordsOf count a))) m w)
+        (ap (λ (x : ℕ). toldApart x m w (keyOf (recOf b))) (mark-at ms i) ∙ sym g) (drop-drop 1 i ms)
 
     pub agreed-not : t ≡ true → false ≡ alike (marked ms (recordsOf count a)) m w
-    agreed-not q =
-        sym (next-alike ∙ ap (λ (x : Bool). not x && alike (marked (drop (suc i) ms) (drop (suc i) (recordsOf count a))) m w) q)
+    agreed-not q = sym (next-alike ∙ ap (λ (x : Bool). not x && left) q)
 
     pub agreed-turn : t ≡ false → Agreed m w ms (recordsOf count a) (i + 1)
-    agreed-turn q = record {
-      long = s .long;
-      rest = next-alike
-          ∙ ap (λ (x : Bool). not x && alike (marked (drop (suc i) ms) (drop (suc i) (recordsOf count a))) m w) q
-          ∙ ap (λ (j : ℕ). alike (marked (drop j ms) (drop j (recordsOf count a))) m w) (sym (add-one i));
-    }
+    unfolding left
+    agreed-turn q = record { rest = next-alike ∙ ap (λ (x : Bool). not x && left) q }

@@ -3,10 +3,8 @@ use Prim.Native.Nat.{ℕ, zero, suc, min, _+_, _≤_, _<_}
 use mathlib.Core.Path.{_≡_, refl, sym, ap, ap₂, _∙_}
 use mathlib.Core.Bool.{Bool, true, false, cond, not, _&&_, _||_}
 use mathlib.Core.List.{List, [], _∷_}
-use native.Mathlib.Numerals.{add-one}
 use native.Mathlib.Omega.{arith}
-use lib.ListN.{length, drop, getD, drop-of-length-le}
-use lib.Seq.{drop-cons}
+use lib.ListN.{drop}
 use lib.Dec.{leb, eqb}
 use borrow.Author.Tests.{eq-eqb, ne-eqb, le-leb, lt-leb}
 use Rattle.wire.specs.Name.{lowered, sameOctets, sameName}
@@ -14,9 +12,9 @@ use Rattle.zone.specs.Lists.{anyOf}
 use Rattle.zone.specs.Record.{Record, Key, keyOf, sameKey}
 use Rattle.zone.specs.Batch.{maxRecords}
 use Rattle.zone.specs.Table.{blockAt, recOf, recordsOf, keyFrom}
-use Rattle.zone.proofs.Memory.{noRecord, length-records, records-at}
 use Rattle.push.specs.Change.{Removal, covers, isTrue}
 use Rattle.push.specs.List.{allTypesAt, rrsetAt, allClassesAt, widest}
+use Rattle.notify.proofs.Records.{records-end, records-next}
 use Rattle.notify.specs.Marks.{removalAt, kindOf, sameNumbers}
 
 -- ---- what a removal covers
@@ -123,28 +121,19 @@ isTrue-nil m = refl
 
 module _ (m : Removal) (count : ℕ) (a : List ℕ) (i : ℕ) (s : Spared m (recordsOf count a) i) (n : ℕ) (e : n ≡ min count maxRecords) where
   pub spared-all : n ≤ i → true ≡ isTrue (recordsOf count a) m
-  spared-all h =
-      sym (s .rest
-      ∙ ap (λ (l : List Record). isTrue l m) (drop-of-length-le (recordsOf count a) {i = i} (omega (arith, length-records count a)))
-      ∙ isTrue-nil m)
+  spared-all h = sym (s .rest ∙ ap (λ (l : List Record). isTrue l m) (records-end count a i n e h) ∙ isTrue-nil m)
 
   module _ (h : i < n) (b : List ℕ) (f : b ≡ blockAt a i) (t : Bool) (g : t ≡ covers m (keyOf (recOf b))) where
-    next : isTrue (recordsOf count a) m ≡ (not t && isTrue (drop (suc i) (recordsOf count a)) m)
-    next =
-        let l : List Record = recordsOf count a in
-        let q : getD l i noRecord ≡ recOf b = records-at count a i (omega arith) ∙ ap recOf (sym f) in
-        s .rest ∙ ap (λ (l : List Record). isTrue l m) (drop-cons l i noRecord (omega (arith, length-records count a)))
-        ∙ isTrue-cons m (getD l i noRecord) (drop (suc i) l)
-        ∙ ap (λ (x : Bool). not x && isTrue (drop (suc i) l) m) (ap (λ (r : Record). covers m (keyOf r)) q ∙ sym g)
+    next : isTrue (recordsOf count a) m ≡ (not t && isTrue (drop (i + 1) (recordsOf count a)) m)
+    next = s .rest ∙ ap (λ (l : List Record). isTrue l m) (records-next count a i n e h b f)
+        ∙ isTrue-cons m (recOf b) (drop (i + 1) (recordsOf count a))
+        ∙ ap (λ (x : Bool). not x && isTrue (drop (i + 1) (recordsOf count a)) m) (sym g)
 
     pub spared-not : t ≡ true → false ≡ isTrue (recordsOf count a) m
-    spared-not q = sym (next ∙ ap (λ (x : Bool). not x && isTrue (drop (suc i) (recordsOf count a)) m) q)
+    spared-not q = sym (next ∙ ap (λ (x : Bool). not x && isTrue (drop (i + 1) (recordsOf count a)) m) q)
 
     pub spared-turn : t ≡ false → Spared m (recordsOf count a) (i + 1)
-    spared-turn q = record {
-      rest = next ∙ ap (λ (x : Bool). not x && isTrue (drop (suc i) (recordsOf count a)) m) q
-          ∙ ap (λ (j : ℕ). isTrue (drop j (recordsOf count a)) m) (sym (add-one i));
-    }
+    spared-turn q = record { rest = next ∙ ap (λ (x : Bool). not x && isTrue (drop (i + 1) (recordsOf count a)) m) q }
 
 -- ---- the widest true one
 

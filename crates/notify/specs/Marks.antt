@@ -2,6 +2,7 @@
 use Prim.Native.Nat.{ℕ, zero, suc, _+_, _-_}
 use mathlib.Core.Bool.{Bool, true, false, cond, not, _&&_, _||_, Bool·beq}
 use mathlib.Core.List.{List, [], _∷_, _++_, map}
+use lib.ListN.{drop, getD}
 use lib.Dec.{leb, eqb}
 use Rattle.zone.specs.Lists.{onlyIf, anyOf}
 use Rattle.zone.specs.Record.{Record, Key, keyOf}
@@ -34,11 +35,14 @@ sameNumbers kind a b = leb 3 kind || (eqb (a .rrclass) (b .rrclass) && (leb 2 ki
 abbrev pub isMarked : ℕ → Bool
 isMarked mark = not (eqb mark 0)
 
+-- The first mark; 0 where there is none.
+abbrev pub firstMark : List ℕ → ℕ
+firstMark ms = getD ms 0 0
+
 -- What the marked records give.
 abbrev pub markedBy : {A : Type 0} → (ℕ → Record → A) → List ℕ → List Record → List A
-markedBy f [] l = []
-markedBy f (m ∷ ms) [] = []
-markedBy f (m ∷ ms) (r ∷ l) = onlyIf (isMarked m) (f m r) (markedBy f ms l)
+markedBy f ms [] = []
+markedBy f ms (r ∷ l) = onlyIf (isMarked (firstMark ms)) (f (firstMark ms) r) (markedBy f (drop 1 ms) l)
 
 -- The marked records.
 unfoldable pub marked : List ℕ → List Record → List Record
@@ -53,11 +57,10 @@ removalsOf ms l = markedBy removalOf ms l
 
 -- Those that are sent: of the records that no earlier removal covers; `earlier` stands before the list.
 unfoldable pub heads : List Removal → List ℕ → List Record → List Removal
-heads earlier [] l = []
-heads earlier (m ∷ ms) [] = []
-heads earlier (m ∷ ms) (r ∷ l) =
-    onlyIf (isMarked m && not (anyOf (λ (e : Removal). covers e (keyOf r)) earlier)) (removalOf m r)
-    (heads (earlier ++ onlyIf (isMarked m) (removalOf m r) []) ms l)
+heads earlier ms [] = []
+heads earlier ms (r ∷ l) =
+    onlyIf (isMarked (firstMark ms) && not (anyOf (λ (e : Removal). covers e (keyOf r)) earlier)) (removalOf (firstMark ms) r)
+    (heads (earlier ++ onlyIf (isMarked (firstMark ms)) (removalOf (firstMark ms) r) []) (drop 1 ms) l)
 
 -- Of a marked record: whether just one of two removals covers it.
 unfoldable pub toldApart : ℕ → Removal → Removal → Key → Bool

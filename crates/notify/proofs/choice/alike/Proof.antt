@@ -21,7 +21,7 @@ alike-spec =
     Inv-loop
     μ-loop
     (λ c κs. search needs)
-    (λ c. agreed-none _ _ _ _ (omega arith))
+    (λ c. search agreed-none)
     (λ c. omega arith)
     (λ c κs. search needs)
     (λ c κs. search needs)
