@@ -17,7 +17,7 @@ use Rattle.zone.proofs.Memory.{noRecord, length-records, records-at}
 use Rattle.push.specs.Change.{Removal, single, rrset, allTypes, allClasses, covers, isTrue}
 use Rattle.push.specs.List.{singleAt, rrsetAt, allTypesAt, allClassesAt, widest, alike, chosen, firsts}
 use Rattle.push.proofs.Plains.{chosen-cases}
-use Rattle.notify.specs.Marks.{removalAt, kindOf, isMarked, firstMark, markedBy, marked, removalOf, kindMark, heads, sent}
+use Rattle.notify.specs.Marks.{removalAt, kindOf, isMarked, firstMark, markedBy, marked, removalOf, isHead, kindMark, heads, sent}
 use Rattle.notify.proofs.Marked.{Filled, filled-turn, filled-all, mark-none, mark-some, mark-at}
 
 -- ---- a removal at a record by its kind
@@ -111,8 +111,7 @@ unfolding heads
 heads-take earlier ms [] = refl
 heads-take earlier [] (r ∷ l) = refl
 heads-take earlier (m ∷ ms) (r ∷ l) =
-    ap (onlyIf (isMarked m && not (anyOf (λ (e : Removal). covers e (keyOf r)) earlier)) (removalOf m r))
-    (heads-take (earlier ++ onlyIf (isMarked m) (removalOf m r) []) ms l)
+    ap (onlyIf (isMarked m && isHead earlier r) (removalOf m r)) (heads-take (earlier ++ onlyIf (isMarked m) (removalOf m r) []) ms l)
 
 module _ (f : Record → Removal) (k : Record → ℕ) (at : (r : Record) → removalAt (k r) r ≡ f r) where
   step : ℕ → Record → ℕ
@@ -123,10 +122,11 @@ module _ (f : Record → Removal) (k : Record → ℕ) (at : (r : Record) → re
 
   -- A head of the code's list is one of the definition's.
   one-head : (r : Record) (earlier : List Record) (m : ℕ) (rest : List Removal) → m ≡ k r + 1
-      → onlyIf (isMarked m && not (anyOf (λ (e : Removal). covers e (keyOf r)) (map f earlier))) (removalOf m r) rest
+      → onlyIf (isMarked m && isHead (map f earlier) r) (removalOf m r) rest
       ≡ onlyIf (not (anyOf (λ (e : Record). covers (f e) (keyOf r)) earlier)) (f r) rest
+  unfolding isHead
   one-head r earlier m rest e =
-      ap₂ (λ (b : Bool) (x : Removal). onlyIf (b && not (anyOf (λ (e : Removal). covers e (keyOf r)) (map f earlier))) x rest)
+      ap₂ (λ (b : Bool) (x : Removal). onlyIf (b && isHead (map f earlier) r) x rest)
       (mark-some m (λ z. omega arith)) (ap (λ (j : ℕ). removalOf j r) e ∙ named r)
       ∙ ap (λ (b : Bool). onlyIf (not b) (f r) rest) (anyOf-of-map f (λ (e : Removal). covers e (keyOf r)) earlier)
 

@@ -4,3 +4,4 @@ pub mod Removals
 pub mod Marked
 pub mod Lookups
 pub mod Choices
+pub mod Writing

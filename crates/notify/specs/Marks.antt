@@ -8,7 +8,7 @@ use Rattle.zone.specs.Lists.{onlyIf, anyOf}
 use Rattle.zone.specs.Record.{Record, Key, keyOf}
 use Rattle.zone.specs.Store.{find, held}
 use Rattle.zone.specs.Match.{Subscription, wanted}
-use Rattle.push.specs.Change.{Removal, single, rrset, allTypes, allClasses, covers}
+use Rattle.push.specs.Change.{Removal, single, rrset, allTypes, allClasses, Change, addition, removal, covers}
 use Rattle.push.specs.List.{singleAt, rrsetAt, allTypesAt, allClassesAt, hasTtl, chosen, firsts}
 
 -- ---- the kinds of removals
@@ -55,12 +55,23 @@ removalOf m r = removalAt (m - 1) r
 unfoldable pub removalsOf : List ℕ → List Record → List Removal
 removalsOf ms l = markedBy removalOf ms l
 
+-- Whether none of some removals covers a record.
+unfoldable pub isHead : List Removal → Record → Bool
+isHead earlier r = not (anyOf (λ (e : Removal). covers e (keyOf r)) earlier)
+
 -- Those that are sent: of the records that no earlier removal covers; `earlier` stands before the list.
 unfoldable pub heads : List Removal → List ℕ → List Record → List Removal
 heads earlier ms [] = []
 heads earlier ms (r ∷ l) =
-    onlyIf (isMarked (firstMark ms) && not (anyOf (λ (e : Removal). covers e (keyOf r)) earlier)) (removalOf (firstMark ms) r)
+    onlyIf (isMarked (firstMark ms) && isHead earlier r) (removalOf (firstMark ms) r)
     (heads (earlier ++ onlyIf (isMarked (firstMark ms)) (removalOf (firstMark ms) r) []) (drop 1 ms) l)
+
+-- What is written for one record: its removal where it is one of those; its addition where it is marked.
+unfoldable pub headAt : List Removal → ℕ → Record → List Change
+headAt earlier mark r = onlyIf (isMarked mark && isHead earlier r) (removal (removalOf mark r)) []
+
+unfoldable pub additionAt : ℕ → Record → List Change
+additionAt mark r = onlyIf (isMarked mark) (addition r) []
 
 -- Of a marked record: whether just one of two removals covers it.
 unfoldable pub toldApart : ℕ → Removal → Removal → Key → Bool
