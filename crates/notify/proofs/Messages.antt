@@ -128,12 +128,12 @@ pub push-written : (o : List ℕ) (cs : List Change) (p : List ℕ) (end : ℕ) 
 push-written o [] p end w q r f = push-none o p end q r f (rw no-changes at w)
 push-written o (c ∷ cs) p end w q r f = push-some o p end q r f c cs w
 
-module _ (o : List ℕ) (a b : List Change) (p q : List ℕ) (m end : ℕ) (w : Wrote o frontLength (changesOctets a) p m) (v : Wrote p m (changesOctets b) q end) where
+module _ (most : ℕ) (o : List ℕ) (a b : List Change) (p q : List ℕ) (m end : ℕ) (w : Step most o frontLength (changesOctets a) p m) (v : Wrote p m (changesOctets b) q end) where
   both-written : Wrote o frontLength (changesOctets (a ++ b)) q end
   both-written = record {
-    written = v .written ∙ ap₂ (λ (l : List ℕ) (k : ℕ). sets l k (changesOctets b)) (w .written) (w .place)
+    written = v .written ∙ ap₂ (λ (l : List ℕ) (k : ℕ). sets l k (changesOctets b)) (w .wrote .written) (w .wrote .place)
         ∙ sym (ap (sets o frontLength) (changes-append a b) ∙ sets-append o frontLength (changesOctets a) (changesOctets b));
-    place = omega (arith, w .place, v .place, length-append (changesOctets a) (changesOctets b), ap length (changes-append a b));
+    place = omega (arith, w .wrote .place, v .place, length-append (changesOctets a) (changesOctets b), ap length (changes-append a b));
   }
 
   pub changes-written : (x : List ℕ) (r : ℕ) → Fronted q end x r → Pushed o (a ++ b) x r
@@ -223,7 +223,8 @@ pub first-sent : (marks : List ℕ) (l : List Record) (p : Record → Bool) (o :
     → marked marks l ≡ keep p l → from ≡ min at (length o)
     → Pushed (take (length o - from) (drop from o)) (additions (marked marks l)) q r
     → (take from o ++ (q ++ drop (length o - from) (drop from o)) ≡ sets o at (pushOf (additions (keep p l)))) × (r ≡ length (pushOf (additions (keep p l))))
-first-sent marks l p o at from q r e f w =
-    (sets-lent-rest o q (pushOf (additions (keep p l))) from (w .written ∙ ap (λ (x : List Record). sets (take (length o - from) (drop from o)) 0 (pushOf (additions x))) e)
-    ∙ lesser-place o at from (pushOf (additions (keep p l))) f,
-    w .count ∙ ap (λ (x : List Record). length (pushOf (additions x))) e)
+first-sent marks l p o at from q r e f w = (
+  sets-lent-rest o q (pushOf (additions (keep p l))) from (w .written ∙ ap (λ (x : List Record). sets (take (length o - from) (drop from o)) 0 (pushOf (additions x))) e)
+      ∙ lesser-place o at from (pushOf (additions (keep p l))) f,
+  w .count ∙ ap (λ (x : List Record). length (pushOf (additions x))) e,
+)

@@ -63,7 +63,12 @@ fn write_changes(
 }
 
 // The PUSH of additions alone.
-fn write_added(out: &mut [u8], new: &[u8; zone::AREA], news: usize, added: &[u8; zone::RECORDS]) -> usize
+fn write_added(
+    out: &mut [u8],
+    new: &[u8; zone::AREA],
+    news: usize,
+    added: &[u8; zone::RECORDS],
+) -> usize
     ensures { λ r. ⌜ Pushed (now (out .entry)) (additions (marked (now (added .entry)) (recordsOf news (now (new .entry))))) (now (out .exit)) r ⌝ }
 {
     let end = write_additions(out, FRONT, new, news, added);
