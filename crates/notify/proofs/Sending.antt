@@ -109,9 +109,6 @@ module _ (o : List ℕ) (from : ℕ) (ms : List ℕ) (count : ℕ) (a p : List �
   removing-long =
       left-long o from (removalsOctets [] ms (recordsOf count a)) p t (removalsOctets (removalsOf ms (take i (recordsOf count a))) (drop i ms) (drop i (recordsOf count a))) (s .left)
 
-  pub removing-near : from ≤ 65536 → i < n → t + room < 2 ^ 64
-  removing-near h k = omega (arith, s .near)
-
   pub removing-all : n ≤ i → Step (room * maxRecords) o from (removalsOctets [] ms (recordsOf count a)) p t
   removing-all h =
       let d : removalsOctets (removalsOf ms (take i (recordsOf count a))) (drop i ms) (drop i (recordsOf count a)) ≡ [] =
@@ -173,9 +170,6 @@ module _ (o : List ℕ) (from : ℕ) (ms : List ℕ) (count : ℕ) (a p : List �
     (e : n ≡ min count maxRecords) where
   pub adding-long : length p ≡ length o
   adding-long = left-long o from (additionsOctets ms (recordsOf count a)) p t (additionsOctets (drop i ms) (drop i (recordsOf count a))) (s .left)
-
-  pub adding-near : from ≤ 65536 → i < n → t + room < 2 ^ 64
-  adding-near h k = omega (arith, s .near)
 
   pub adding-all : n ≤ i → Wrote o from (additionsOctets ms (recordsOf count a)) p t
   adding-all h =

@@ -4,7 +4,7 @@ use native.Mathlib.Omega.{arith}
 use borrow.Author.Needs.{needs}
 use Rattle.zone.specs.Table.{recordsOf}
 use Rattle.notify.proofs.Heads.{block-short}
-use Rattle.notify.proofs.Sending.{Adding, adding-none, adding-long, adding-near, adding-turn, adding-all}
+use Rattle.notify.proofs.Sending.{Adding, adding-none, adding-long, adding-turn, adding-all}
 use Rattle.notify.proofs.list.write_additions.Statement.{statement}
 use Rattle.notify.proofs.list.write_additions.Tie as tie
 
@@ -24,7 +24,7 @@ write-additions-spec =
     (λ c. search adding-none)
     (λ c. omega arith)
     (λ c κs. search needs)
-    (λ c κs. (search adding-near, search block-short))
+    (λ c κs. (omega arith, search block-short))
     (λ c. omega arith)
     (λ c. omega arith)
     (λ c. search adding-turn)

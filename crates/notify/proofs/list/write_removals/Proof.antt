@@ -3,7 +3,7 @@ use Prim.Native.Nat.{_-_}
 use native.Mathlib.Omega.{arith}
 use borrow.Author.Needs.{needs}
 use Rattle.zone.specs.Table.{recordsOf}
-use Rattle.notify.proofs.Sending.{Removing, removing-none, removing-long, removing-near, removing-turn, removing-all}
+use Rattle.notify.proofs.Sending.{Removing, removing-none, removing-long, removing-turn, removing-all}
 use Rattle.notify.proofs.list.write_removals.Statement.{statement}
 use Rattle.notify.proofs.list.write_removals.Tie as tie
 
@@ -21,7 +21,7 @@ write-removals-spec =
     μ-loop
     (λ c κs. search needs)
     (λ c. search removing-none)
-    (λ c κs. (search removing-near, omega arith))
+    (λ c κs. (omega arith, omega arith))
     (λ c. omega arith)
     (λ c. omega arith)
     (λ c. search removing-turn)
