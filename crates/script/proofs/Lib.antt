@@ -1,0 +1,3 @@
+-- Laws of the lines' definitions: numbers and octets read back, fields parted and joined, and how the loops go.
+pub mod Digits
+pub mod Numbers
