@@ -63,10 +63,11 @@ pub fn read_number(s: &[u8]) -> Number
     if s.len() == 0 {
         return Number::NoNumber;
     }
-    if s[0] == b'0' {
-        if 1 < s.len() {
-            return Number::NoNumber;
-        }
+    if s[0] != b'0' {
+        return value(s);
+    }
+    if 1 < s.len() {
+        return Number::NoNumber;
     }
     value(s)
 }

@@ -1,49 +1,19 @@
+-- `script::verb::same` meets its contract. The loop's invariant: what is left is equal where the whole is. Assumes nothing.
+use Prim.Native.Nat.{_-_}
+use borrow.Author.Needs.{needs}
+use native.Mathlib.Omega.{arith}
+use lib.ListN.{length}
+use Rattle.script.proofs.Verbs.{Same, same-none, same-end, same-turn, other-length, other-octet}
 use Rattle.script.proofs.verb.same.Statement.{statement}
 use Rattle.script.proofs.verb.same.Tie as tie
-use Rattle.script.proofs.verb.same.Reads as reads
-use Rattle.script.proofs.verb.same.Lts as lts
 
 abbrev Inv-loop : tie.InvT-loop
-Inv-loop a b i₀ i = ?
+Inv-loop a b i₀ i = Same a b i
 
 abbrev μ-loop : tie.MeasureT-loop
-μ-loop a b i₀ i = ?
+μ-loop a b i₀ i = length a - i
 
--- src/verb.rt:20:9
-returns : tie.Need-returns Inv-loop μ-loop
-returns c = ?
-
--- src/verb.rt:23:5
-loop-holds : tie.Need-loop-holds Inv-loop μ-loop
-loop-holds c = ?
-
--- src/verb.rt:24:12
-shared-slice-read-if2 : tie.Need-shared-slice-read-if2 Inv-loop μ-loop
-shared-slice-read-if2 c = ?
-
--- src/verb.rt:24:20
-shared-slice-read-if2-2 : tie.Need-shared-slice-read-if2-2 Inv-loop μ-loop
-shared-slice-read-if2-2 c = ?
-
--- src/verb.rt:25:13
-returns-2 : tie.Need-returns-2 Inv-loop μ-loop
-returns-2 c = ?
-
--- src/verb.rt:27:9
-add-i : tie.Need-add-i Inv-loop μ-loop
-add-i c = ?
-
--- src/verb.rt:23:5
-loop-less : tie.Need-loop-less Inv-loop μ-loop
-loop-less c = ?
-
--- src/verb.rt:23:5
-loop-again : tie.Need-loop-again Inv-loop μ-loop
-loop-again c = ?
-
--- src/verb.rt:16:1
-returns-3 : tie.Need-returns-3 Inv-loop μ-loop
-returns-3 c = ?
+ruleset rules = (same-none, same-end, same-turn, other-length, other-octet, needs)
 
 pub same-spec : {M : Type 1} → statement M
 same-spec =
@@ -51,12 +21,12 @@ same-spec =
     (tie.spec
     Inv-loop
     μ-loop
-    returns
-    loop-holds
-    shared-slice-read-if2
-    shared-slice-read-if2-2
-    returns-2
-    add-i
-    loop-less
-    loop-again
-    returns-3)
+    (λ c. search rules)
+    (λ c. search rules)
+    (λ c. search rules)
+    (λ c. search rules)
+    (λ c. search rules)
+    (λ c. search rules)
+    (λ c. search rules)
+    (λ c. search rules)
+    (λ c. search rules))
