@@ -40,16 +40,16 @@ hex-odd (a ∷ b ∷ s) o h = by-test (ltb (digitValue a) 16 && ltb (digitValue 
     by-test true r e = rw (← e)
     by-test false r e = refl
 
--- i octets are decoded, and stand at the front of o.
-pub record Decoding (s o : List ℕ) (i : ℕ) : Type 0 where
+-- i octets are decoded, and stand at the front of o, which is as long as it was at first.
+pub record Decoding (s first o : List ℕ) (i : ℕ) : Type 0 where
   pub rest : hexBytes s ≡ behind (take i o) (hexBytes (drop (2 * i) s))
-  pub long : length o ≡ 16384
+  pub long : length o ≡ length first
   pub low : 2 * i ≤ length s
 
-pub decoding-none : (s o : List ℕ) → length o ≡ 16384 → Decoding s o 0
-decoding-none s o h = record { rest = behind-none (hexBytes s); long = h; low = omega arith }
+pub decoding-none : (s o : List ℕ) → Decoding s o o 0
+decoding-none s o = record { rest = behind-none (hexBytes s); long = refl; low = omega arith }
 
-module _ (s o : List ℕ) (i : ℕ) (r : Decoding s o i) where
+module _ (s first o : List ℕ) (i : ℕ) (r : Decoding s first o i) where
   pub decoding-end : (n : ℕ) → n ≡ length s / 2 → length s % 2 ≡ 0 → n ≤ i → decodedBytes (Bytes n) o ≡ hexBytes s
   unfolding hexBytes
   decoding-end n e h k =
@@ -75,7 +75,7 @@ module _ (s o : List ℕ) (i : ℕ) (r : Decoding s o i) where
     pub decoding-low : hi ≤ 15 → 15 < lo → decodedBytes NoBytes o ≡ hexBytes s
     decoding-low j k = rw (step, lt-ltb hi 16 (omega arith), le-ltb lo 16 (omega arith))
 
-    pub decoding-turn : length s ≤ 32768 → hi ≤ 15 → lo ≤ 15 → Decoding s (set o i (hi * 16 + lo)) (i + 1)
+    pub decoding-turn : length s ≤ 2 * length first → hi ≤ 15 → lo ≤ 15 → Decoding s first (set o i (hi * 16 + lo)) (i + 1)
     decoding-turn m j k =
         let t : take (i + 1) (set o i (hi * 16 + lo)) ≡ take i o ++ ((hi * 16 + lo) ∷ []) =
             rw (add-one i) (take-suc-set o i (hi * 16 + lo) (omega (arith, r .long))) in

@@ -1,10 +1,9 @@
 // Octets from pairs of hexadecimal digits.
 use crate::number::digit;
-ghost use Prim.Native.Nat.{_≤_};
+ghost use Prim.Native.Nat.{_*_, _≤_};
 ghost use mathlib.Core.Path.{_≡_};
 ghost use lib.ListN.{length};
 ghost use Rattle.script.specs.Hex.{hexBytes};
-ghost use Rattle.script.specs.Line.{maxLine};
 ghost use Rattle.script.specs.Code.{decodedBytes};
 
 // So many octets stand at the front of the lent memory; or the digits are no whole octets.
@@ -13,8 +12,8 @@ pub enum Decoded {
     NoBytes,
 }
 
-pub fn decode(s: &[u8], bytes: &mut [u8; 16384]) -> Decoded
-    requires { ⌜ length (now s) ≤ maxLine ⌝ }
+pub fn decode(s: &[u8], bytes: &mut [u8]) -> Decoded
+    requires { ⌜ length (now s) ≤ 2 * length (now bytes) ⌝ }
     ensures { λ r. ⌜ decodedBytes r (now (bytes .exit)) ≡ hexBytes (now (s .entry)) ⌝ }
 {
     if s.len() % 2 != 0 {

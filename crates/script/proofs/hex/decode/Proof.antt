@@ -7,7 +7,7 @@ use Rattle.script.proofs.hex.decode.Statement.{statement}
 use Rattle.script.proofs.hex.decode.Tie as tie
 
 abbrev Inv-loop : tie.InvT-loop
-Inv-loop s bytes₀ n i₀ bytes i = Decoding s bytes i
+Inv-loop s bytes₀ n i₀ bytes i = Decoding s bytes₀ bytes i
 
 abbrev μ-loop : tie.MeasureT-loop
 μ-loop s bytes₀ n i₀ bytes i = n - i
@@ -21,14 +21,17 @@ decode-spec =
     Inv-loop
     μ-loop
     (λ c. search rules)
-    (λ c. decoding-none _ _ (omega arith))
+    (λ c. search rules)
+    (λ c. search rules)
+    (λ c. search rules)
+    (λ c κs. search rules)
+    (λ c. search rules)
     (λ c. search rules)
     (λ c. search rules)
     (λ c κs. search rules)
     (λ c. search rules)
     (λ c. search rules)
     (λ c. search rules)
-    (λ c κs. search rules)
     (λ c. search rules)
     (λ c. search rules)
     (λ c. search rules)
