@@ -87,7 +87,7 @@ module _ (s first o : List ℕ) (i : ℕ) (r : Decoding s first o i) where
 
 -- ---- writing
 
-hex-append : (a b : List ℕ) → hexOctets (a ++ b) ≡ hexOctets a ++ hexOctets b
+pub hex-append : (a b : List ℕ) → hexOctets (a ++ b) ≡ hexOctets a ++ hexOctets b
 unfolding hexOctets
 hex-append [] b = refl
 hex-append (x ∷ a) b = ap (λ (l : List ℕ). digitOctet (x / 16) ∷ digitOctet (x % 16) ∷ l) (hex-append a b)

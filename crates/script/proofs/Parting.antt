@@ -1,15 +1,15 @@
 -- Fields: parting a line at its first tab, and that fields joined by tabs are parted again.
 use Prim.Native.Nat.{ℕ, suc, _+_, _-_, _≤_, _<_}
-use mathlib.Core.Path.{_≡_, refl, sym, ap, ap₂, _∙_}
+use mathlib.Core.Path.{_≡_, refl, sym, ap, ap₂, _∙_, subst⁻¹}
 use mathlib.Core.Bool.{Bool, true, false, cond}
 use mathlib.Core.List.{List, [], _∷_, _++_, append-nil}
 use native.Mathlib.Nat.{suc-inj, add-suc, suc-add}
 use native.Mathlib.Numerals.{add-one}
 use native.Mathlib.Omega.{arith}
 use lib.ListN.{length, take, drop, getD, drop-of-length-le}
-use lib.Seq.{drop-cons}
-use lib.Dec.{eqb}
-use borrow.Author.Tests.{eq-eqb, ne-eqb}
+use lib.Seq.{drop-cons, take-all}
+use lib.Dec.{ltb, eqb}
+use borrow.Author.Tests.{eq-eqb, ne-eqb, ltb-true, ltb-false}
 use Rattle.wire.proofs.Writes.{drop-slice}
 use Rattle.script.specs.Fields.{tab, fieldsWith, fields, tabsBefore, tabbed, untilTab, FirstTab}
 
@@ -122,3 +122,30 @@ tabs-parted f (g ∷ fs) h k =
 pub fields-tabbed : (f : List ℕ) (fs : List (List ℕ)) → AllFields (f ∷ fs) → fields (tabbed (f ∷ fs)) ≡ f ∷ fs
 unfolding tabbed
 fields-tabbed f fs h = tabs-parted f fs (h .0) (h .1)
+
+-- ---- one field, or more
+
+module _ (P : List (List ℕ) → Type 0) (s : List ℕ) where
+  -- What holds of the whole as one field, and of any two or more, holds of the fields.
+  pub fields-cases : P (s ∷ []) → ((f g : List ℕ) (gs : List (List ℕ)) → P (f ∷ g ∷ gs)) → P (fields s)
+  fields-cases one more = by-test (ltb (untilTab s) (length s)) refl
+    where
+      more-of : (f : List ℕ) (fs : List (List ℕ)) → 0 < length fs → P (f ∷ fs)
+      more-of f [] h = absurd (omega arith)
+      more-of f (g ∷ gs) h = more f g gs
+
+      by-test : (t : Bool) → ltb (untilTab s) (length s) ≡ t → P (fields s)
+      by-test true e =
+          let rest : List ℕ = drop (suc (untilTab s)) s in
+          subst⁻¹ P (fields-parted s (ltb-true (untilTab s) (length s) e)) (more-of (take (untilTab s) s) (fields rest) (fields-some rest))
+      by-test false e = subst⁻¹ P (fields-whole s (ltb-false (untilTab s) (length s) e)) one
+
+-- The first field, whatever follows it.
+pub first-field : (P : List (List ℕ) → Type 0) (s : List ℕ) (i : ℕ) → FirstTab s i → ((fs : List (List ℕ)) → P (take i s ∷ fs)) → P (fields s)
+first-field P s i r k = by-test (ltb i (length s)) refl
+  where
+    by-test : (t : Bool) → ltb i (length s) ≡ t → P (fields s)
+    by-test true e = subst⁻¹ P (parted s i r (ltb-true i (length s) e)) (k (fields (take (length s - (i + 1)) (drop (i + 1) s))))
+    by-test false e =
+        let h : length s ≤ i = ltb-false i (length s) e in
+        subst⁻¹ P (parted-none s i r h ∙ ap (λ (f : List ℕ). f ∷ []) (sym (take-all i s h))) (k [])

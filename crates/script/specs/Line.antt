@@ -1,11 +1,13 @@
 -- What a line of input is. 01, "The replay program": "Standard input lines, fields parted by tabs: open time; close time s;
 -- msg time s hex; batch time hex; tick time"; "A line over 32,768 bytes, LF aside, or unreadable".
-use Prim.Native.Nat.{ℕ}
-use mathlib.Core.Bool.{cond}
+use Prim.Native.Nat.{ℕ, _^_, _<_}
+use mathlib.Core.Path.{_≡_}
+use mathlib.Core.Bool.{true, cond}
 use mathlib.Core.List.{List, [], _∷_}
 use mathlib.Core.Option.{Option, none, some}
 use lib.ListN.{length}
 use lib.Dec.{leb}
+use lib.Pow.{areBytes}
 use Rattle.script.specs.Number.{number, decimal}
 use Rattle.script.specs.Hex.{hexBytes, hexOctets}
 use Rattle.script.specs.Fields.{fields, tabbed}
@@ -76,3 +78,12 @@ lineFields Line.unreadable = []
 
 unfoldable pub lineText : Line → List ℕ
 lineText line = tabbed (lineFields line)
+
+-- A line whose text can be written and read: numbers of 64 bits, and octets. (01 has no text for an unreadable one.)
+abbrev pub Fitting : Line → Type 0
+Fitting (Line.opening t) = t < 2 ^ 64
+Fitting (Line.closing t s) = (t < 2 ^ 64) × (s < 2 ^ 64)
+Fitting (Line.message t s l) = (t < 2 ^ 64) × ((s < 2 ^ 64) × (areBytes l ≡ true))
+Fitting (Line.batch t l) = (t < 2 ^ 64) × (areBytes l ≡ true)
+Fitting (Line.ticking t) = t < 2 ^ 64
+Fitting Line.unreadable = ⊥

@@ -74,9 +74,10 @@ fn hex(out: &mut [u8], bytes: &[u8])
 fn put_hex(out: &mut [u8], at: usize, bytes: &[u8]) -> usize
     ensures { λ r. ⌜ Written (now (out .entry)) at (hexOctets (now (bytes .entry))) (now (out .exit)) r ⌝ }
 {
-    if at < out.len() {
-        hex(&mut out[at..], bytes);
+    if out.len() <= at {
+        return out.len();
     }
+    hex(&mut out[at..], bytes);
     place(out.len(), at, 2 * bytes.len())
 }
 
