@@ -23,7 +23,7 @@ hex-spec =
     μ-loop
     (λ c. search rules)
     (λ c. search rules)
-    (λ c κs. omega (arith, c .shared-slice-known .given (c .before .before .loop .i)))
+    (λ c κs. omega (arith, c .shared-slice-known2 .given (c .before .before .loop .i)))
     (λ c κs. search rules)
     (λ c. search rules)
     (λ c. search rules)

@@ -1,6 +1,7 @@
 -- `script::writer::put_number` meets its contract. The loop's invariant: the digits behind `i` are written, and `rest` is left. Assumes nothing.
 use borrow.Author.Needs.{needs}
 use native.Mathlib.Omega.{arith}
+use lib.ListN.{length-set}
 use Rattle.script.proofs.Writing.{Tail, tail-none, tail-place, tail-less, tail-turn, tail-written}
 use Rattle.script.proofs.writer.put_number.Statement.{statement}
 use Rattle.script.proofs.writer.put_number.Tie as tie
@@ -32,7 +33,7 @@ put-number-spec =
     (λ c. search rules)
     (λ c. search rules)
     (λ c. search rules)
-    (λ c. search rules)
+    (λ c. simp length-set (omega arith))
     (λ c κs. search rules)
     (λ c. search rules)
     (λ c. search rules))
