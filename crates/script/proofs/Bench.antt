@@ -2,9 +2,8 @@
 -- and lines that are unreadable. Settled by computation.
 use Prim.Native.Nat.{ℕ}
 use mathlib.Core.Path.{_≡_, refl}
-use mathlib.Core.List.{List, [], _∷_, _++_}
+use mathlib.Core.List.{List, [], _∷_}
 use mathlib.Core.Option.{none, some}
-use lib.ListN.{replicate}
 use Rattle.wire.specs.Name.{sameOctets}
 use Rattle.script.specs.Digit.{digitValue, digitOctet}
 use Rattle.script.specs.Number.{digits, in64, valueOf, plain, number, decimalIn, decimal}

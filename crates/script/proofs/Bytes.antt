@@ -6,16 +6,14 @@ use mathlib.Core.List.{List, [], _∷_, _++_, append-nil, append-assoc}
 use mathlib.Core.Option.{Option, none, some}
 use native.Mathlib.Numerals.{add-one}
 use native.Mathlib.Omega.{arith}
-use lib.ListN.{length, take, drop, getD, set, length-set, length-append, drop-of-length-le}
-use lib.Seq.{sets, drop-cons, take-suc, take-suc-set}
+use lib.ListN.{length, take, drop, getD, set, length-set, drop-of-length-le}
+use lib.Seq.{drop-cons, take-suc-set}
 use lib.Dec.{ltb}
 use lib.Pow.{areBytes}
 use borrow.Author.Tests.{lt-ltb, le-ltb, ltb-true}
-use Rattle.wire.proofs.Writes.{sets-append}
 use Rattle.script.specs.Digit.{digitValue, digitOctet}
 use Rattle.script.specs.Hex.{behind, hexBytes, hexOctets}
 use Rattle.script.specs.Code.{decodedBytes}
-use Rattle.script.specs.declared.hex.Decoded.{Decoded}
 use Rattle.script.specs.declared.hex.Decoded.the-variants.{Bytes, NoBytes}
 use Rattle.script.proofs.Digits.{digit-read}
 
@@ -78,7 +76,7 @@ module _ (s first o : List ℕ) (i : ℕ) (r : Decoding s first o i) where
     pub decoding-turn : length s ≤ 2 * length first → hi ≤ 15 → lo ≤ 15 → Decoding s first (set o i (hi * 16 + lo)) (i + 1)
     decoding-turn m j k =
         let t : take (i + 1) (set o i (hi * 16 + lo)) ≡ take i o ++ ((hi * 16 + lo) ∷ []) =
-            rw (add-one i) (take-suc-set o i (hi * 16 + lo) (omega (arith, r .long))) in
+        rw (add-one i) (take-suc-set o i (hi * 16 + lo) (omega (arith, r .long))) in
         record {
           rest = rw (step, lt-ltb hi 16 (omega arith), lt-ltb lo 16 (omega arith), t) (behind-behind (take i o) ((hi * 16 + lo) ∷ []) (hexBytes (drop (2 * (i + 1)) s)));
           long = rw length-set (r .long);

@@ -1,8 +1,8 @@
 -- A line read field by field is the line that the definition gives; and a line's text is read back as the line.
-use Prim.Native.Nat.{ℕ, suc, _+_, _-_, _^_, _≤_, _<_}
-use mathlib.Core.Path.{_≡_, refl, sym, ap, ap₂, _∙_}
-use mathlib.Core.Bool.{Bool, true, false, cond}
-use mathlib.Core.List.{List, [], _∷_, _++_}
+use Prim.Native.Nat.{ℕ, _+_, _-_, _≤_, _<_}
+use mathlib.Core.Path.{_≡_, refl, sym, ap, _∙_}
+use mathlib.Core.Bool.{Bool, true, false}
+use mathlib.Core.List.{List, [], _∷_}
 use mathlib.Core.Option.{Option, none, some}
 use native.Mathlib.Nat.{sub-zero}
 use native.Mathlib.Omega.{arith}
@@ -13,7 +13,7 @@ use Rattle.script.specs.Number.{number}
 use Rattle.script.specs.Hex.{hexBytes}
 use Rattle.script.specs.Fields.{fields, FirstTab}
 use Rattle.script.specs.Verb.{verbOf}
-use Rattle.script.specs.Line.{Line, maxLine, withNumber, withBytes, timed, spoken, lineOfFields, lineOf}
+use Rattle.script.specs.Line.{Line, maxLine, timed, spoken, lineOfFields, lineOf}
 use Rattle.script.specs.Code.{numberRead, decodedBytes, commandLine, Is}
 use Rattle.script.specs.declared.verb.Verb.{Verb}
 use Rattle.script.specs.declared.verb.Verb.the-variants.{Open as open-verb, Close as close-verb, Message as message-verb, Batch as batch-verb, Tick as tick-verb, Unknown}
@@ -23,7 +23,7 @@ use Rattle.script.specs.declared.hex.Decoded.{Decoded}
 use Rattle.script.specs.declared.hex.Decoded.the-variants.{Bytes, NoBytes}
 use Rattle.script.specs.declared.reader.Command.{Command}
 use Rattle.script.specs.declared.reader.Command.the-variants.{Open, Close, Message, Batch, Tick, Unreadable}
-use Rattle.script.proofs.Parting.{Field, fields-whole, fields-cases, first-field, parted, parted-none}
+use Rattle.script.proofs.Parting.{fields-whole, fields-cases, first-field, parted, parted-none}
 use Rattle.script.proofs.Tabless.{number-tabless, bytes-tabless}
 
 -- ---- what the code found, as the definition has it

@@ -1,20 +1,20 @@
 -- What is written in the format is read back: a number, and a whole line, one theorem over its kind.
 use Prim.Native.Nat.{ℕ, zero, suc, _+_, _*_, _/_, _%_, _^_, _≤_, _<_}
 use mathlib.Core.Path.{_≡_, refl, sym, ap, _∙_}
-use mathlib.Core.Bool.{Bool, true, false, cond, not}
+use mathlib.Core.Bool.{Bool, true, false}
 use mathlib.Core.List.{List, [], _∷_, _++_, append-assoc, append-nil}
-use mathlib.Core.Option.{Option, none, some}
+use mathlib.Core.Option.{some}
 use native.Mathlib.Nat.{pow-suc}
 use native.Mathlib.Omega.{arith}
 use lib.ListN.{length}
-use lib.Dec.{ltb, eqb, lit≤}
+use lib.Dec.{ltb, lit≤}
 use lib.Pow.{areBytes}
 use borrow.Author.Tests.{lt-ltb, ltb-true, ltb-false, le-leb, ne-eqb}
 use Rattle.script.specs.Digit.{digitValue, digitOctet}
 use Rattle.script.specs.Number.{digits, in64, valueOf, plain, number, decimalIn, maxDigits, decimal}
-use Rattle.script.specs.Hex.{hexBytes, hexOctets}
-use Rattle.script.specs.Fields.{fields, tabbed, untilTab}
-use Rattle.script.specs.Verb.{verbText, verbOf}
+use Rattle.script.specs.Hex.{hexOctets}
+use Rattle.script.specs.Fields.{tabbed, untilTab}
+use Rattle.script.specs.Verb.{verbText}
 use Rattle.script.specs.Line.{Line, maxLine, timed, spoken, lineOfFields, lineOf, lineFields, lineText, Fitting}
 use Rattle.script.specs.declared.verb.Verb.{Verb}
 use Rattle.script.specs.declared.verb.Verb.the-variants.{Open, Close, Message, Batch, Tick, Unknown}

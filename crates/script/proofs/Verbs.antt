@@ -1,7 +1,7 @@
 -- Verbs: two words side by side, and which verb a word is.
 use Prim.Native.Nat.{ℕ, suc, _+_, _≤_, _<_}
 use mathlib.Core.Path.{_≡_, refl, sym, ap, ap₂, _∙_}
-use mathlib.Core.Bool.{Bool, true, false, cond, _&&_}
+use mathlib.Core.Bool.{Bool, true, false, _&&_}
 use mathlib.Core.List.{List, [], _∷_}
 use native.Mathlib.Numerals.{add-one}
 use native.Mathlib.Omega.{arith}
@@ -60,9 +60,6 @@ module _ (a b : List ℕ) (i : ℕ) (r : Same a b i) where
 -- ---- which verb: the words are tried in turn
 
 module _ (s : List ℕ) where
-  abbrev pub IsWord : Bool → Verb → Type 0
-  IsWord t v = t ≡ sameOctets s (verbText v)
-
   pub verb-open : (a : Bool) → a ≡ sameOctets s (verbText Open) → a ≡ true → Open ≡ verbOf s
   unfolding verbOf
   verb-open a e t = rw (← e, t)

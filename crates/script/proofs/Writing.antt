@@ -2,16 +2,16 @@
 use Prim.Native.Nat.{ℕ, zero, suc, _+_, _-_, _*_, _/_, _%_, _^_, _≤_, _<_, min}
 use mathlib.Core.Path.{_≡_, refl, sym, ap, ap₂, _∙_, subst, subst⁻¹}
 use mathlib.Core.Option.{Option, none, some}
-use mathlib.Core.Bool.{Bool, true, false}
+use mathlib.Core.Bool.{Bool, true, false, cond}
 use mathlib.Core.List.{List, [], _∷_, _++_, append-assoc, append-nil}
 use native.Mathlib.Nat.{pow-suc}
 use native.Mathlib.Numerals.{add-one}
 use native.Mathlib.Omega.{arith}
 use lib.ListN.{length, take, drop, set, getD, length-append, length-set, length-drop, drop-of-length-le}
 use lib.Seq.{sets, length-sets, drop-cons, drop-set-lt, getD-set-same, take-suc, take-all, length-take-le}
-use lib.Dec.{ltb}
+use lib.Dec.{ltb, lit≤}
 use borrow.Author.Tests.{lt-ltb, le-ltb, ltb-true, ltb-false}
-use Rattle.wire.proofs.Writes.{sets-append, sets-out, sets-lent-rest}
+use Rattle.wire.proofs.Writes.{sets-append, sets-out, sets-lent-rest, take-written}
 use Rattle.script.specs.Digit.{digitOctet}
 use Rattle.script.specs.Number.{decimalIn, maxDigits, decimal}
 use Rattle.script.specs.Hex.{hexOctets}
@@ -20,6 +20,7 @@ use Rattle.script.specs.Verb.{verbText}
 use Rattle.script.specs.Output.{lf, dash, sessionOctets, bytesOctets, lineOctets}
 use Rattle.script.specs.Code.{Written, sessionOf, carried}
 use Rattle.script.specs.declared.verb.Verb.{Verb}
+use Rattle.script.specs.declared.verb.Verb.the-variants.{Open, Close, Message, Batch, Tick, Unknown}
 use Rattle.script.specs.declared.writer.SessionField.{SessionField}
 use Rattle.script.specs.declared.writer.SessionField.the-variants.{Session, NoSession}
 use Rattle.script.proofs.Bytes.{hex-append, length-hex}
@@ -207,7 +208,58 @@ line-written o at v n p r w s q u x c z t y =
     let b : List ℕ = tab ∷ sessionOctets s in
     let d : List ℕ = (tab ∷ bytesOctets c) ++ (lf ∷ []) in
     let all : Written o at ((a ++ b) ++ d) z t =
-        written-then o at (a ++ b) q u (written-then o at a p r w b q u x) d z t y in
+    written-then o at (a ++ b) q u (written-then o at a p r w b q u x) d z t y in
     let same : (a ++ b) ++ d ≡ (verbText v ++ tabsBefore (decimal n ∷ sessionOctets s ∷ bytesOctets c ∷ [])) ++ (lf ∷ []) =
-        simp (append-assoc, append-nil) in
+    simp (append-assoc, append-nil) in
     subst (λ (l : List ℕ). Written o at l z t) same all
+
+-- ---- for who lends the memory
+
+-- Where it is long enough, what stands at its front is the text.
+pub written-taken : (o text p : List ℕ) (r : ℕ) → Written o 0 text p r → length text ≤ length o → take r p ≡ text
+written-taken o text p r w h =
+    let n : r ≡ length text = omega (arith, w .next) in
+    ap₂ (λ (k : ℕ) (l : List ℕ). take k l) n (w .whole) ∙ take-written o text h
+
+length-decimalIn : (n x : ℕ) → length (decimalIn n x) ≤ n
+unfolding decimalIn
+length-decimalIn zero x = omega arith
+length-decimalIn (suc n) x = by-test (ltb x 10) (length-decimalIn n (x / 10))
+  where
+    by-test : (t : Bool) → length (decimalIn n (x / 10)) ≤ n
+        → length (cond t (digitOctet x ∷ []) (decimalIn n (x / 10) ++ (digitOctet (x % 10) ∷ []))) ≤ suc n
+    by-test true h = omega arith
+    by-test false h = omega (arith, length-append (decimalIn n (x / 10)) (digitOctet (x % 10) ∷ []))
+
+length-decimal : (x : ℕ) → length (decimal x) ≤ maxDigits
+unfolding decimal
+length-decimal x = length-decimalIn maxDigits x
+
+length-verb : (v : Verb) → length (verbText v) ≤ 5
+unfolding verbText
+length-verb Open = lit≤ tt
+length-verb Close = lit≤ tt
+length-verb Message = lit≤ tt
+length-verb Batch = lit≤ tt
+length-verb Tick = lit≤ tt
+length-verb Unknown = lit≤ tt
+
+length-session : (s : Option ℕ) → length (sessionOctets s) ≤ maxDigits
+unfolding sessionOctets
+length-session none = lit≤ tt
+length-session (some s) = length-decimal s
+
+length-bytes : (c : Bool) (l : List ℕ) → length (bytesOctets (carried c l)) ≤ 1 + 2 * length l
+unfolding bytesOctets
+length-bytes false l = omega arith
+length-bytes true l = omega (arith, length-hex l)
+
+-- The most octets that a line has.
+pub length-line : (v : Verb) (n : ℕ) (s : Option ℕ) (c : Bool) (l : List ℕ) → length (lineOctets v n s (carried c l)) ≤ 50 + 2 * length l
+unfolding lineOctets tabbed
+length-line v n s c l =
+    let a = length-verb v in
+    let b = length-decimal n in
+    let d = length-session s in
+    let e = length-bytes c l in
+    simp length-append (omega arith)

@@ -3,7 +3,7 @@
 use crate::number::digit_octet;
 use crate::verb::Verb;
 use wire::write_octets;
-ghost use Prim.Native.Nat.{_+_, _*_, min};
+ghost use Prim.Native.Nat.{_+_, min};
 ghost use mathlib.Core.Path.{_≡_};
 ghost use mathlib.Core.List.{[], _∷_, _++_};
 ghost use lib.Seq.{sets};

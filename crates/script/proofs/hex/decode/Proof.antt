@@ -1,7 +1,6 @@
 -- `script::hex::decode` meets its contract. The loop's invariant: `i` octets are decoded. Assumes nothing.
 use Prim.Native.Nat.{_-_}
 use borrow.Author.Needs.{needs}
-use native.Mathlib.Omega.{arith}
 use Rattle.script.proofs.Bytes.{Decoding, decoding-none, decoding-end, decoding-high, decoding-low, decoding-turn, hex-odd}
 use Rattle.script.proofs.hex.decode.Statement.{statement}
 use Rattle.script.proofs.hex.decode.Tie as tie

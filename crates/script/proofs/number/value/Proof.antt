@@ -1,7 +1,6 @@
 -- `script::number::value` meets its contract. The loop's invariant: the first `i` digits stand for `x`. Assumes nothing.
 use Prim.Native.Nat.{_-_}
 use borrow.Author.Needs.{needs}
-use native.Mathlib.Omega.{arith}
 use lib.ListN.{length}
 use Rattle.script.proofs.Numbers.{Summed, summed-none, summed-end, summed-other, summed-large, summed-turn}
 use Rattle.script.proofs.number.value.Statement.{statement}

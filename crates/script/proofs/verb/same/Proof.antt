@@ -1,7 +1,6 @@
 -- `script::verb::same` meets its contract. The loop's invariant: what is left is equal where the whole is. Assumes nothing.
 use Prim.Native.Nat.{_-_}
 use borrow.Author.Needs.{needs}
-use native.Mathlib.Omega.{arith}
 use lib.ListN.{length}
 use Rattle.script.proofs.Verbs.{Same, same-none, same-end, same-turn, other-length, other-octet}
 use Rattle.script.proofs.verb.same.Statement.{statement}
