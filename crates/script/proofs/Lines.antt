@@ -1,13 +1,14 @@
 -- A line read field by field is the line that the definition gives; and a line's text is read back as the line.
 use Prim.Native.Nat.{ℕ, _+_, _-_, _≤_, _<_}
 use mathlib.Core.Path.{_≡_, refl, sym, ap, _∙_}
-use mathlib.Core.Bool.{Bool, true, false}
+use mathlib.Core.Bool.{Bool, true, false, cond}
 use mathlib.Core.List.{List, [], _∷_}
 use mathlib.Core.Option.{Option, none, some}
 use native.Mathlib.Nat.{sub-zero}
 use native.Mathlib.Omega.{arith}
 use lib.ListN.{length, take, drop}
 use lib.Seq.{take-all}
+use lib.Dec.{leb}
 use borrow.Author.Tests.{le-leb, lt-leb}
 use Rattle.script.specs.Number.{number}
 use Rattle.script.specs.Hex.{hexBytes}
@@ -194,14 +195,19 @@ pub line-long : (s o : List ℕ) → maxLine < length s → commandLine Unreadab
 unfolding lineOf
 line-long s o h = rw (lt-leb (length s) maxLine h)
 
-module _ (s : List ℕ) (i : ℕ) (h : FirstTab s i) (b : length s ≤ maxLine) where
+either : (t : Bool) → Line.unreadable ≡ cond t Line.unreadable Line.unreadable
+either true = refl
+either false = refl
+
+module _ (s : List ℕ) (i : ℕ) (h : FirstTab s i) where
+  -- A field alone is no line, however long it is.
   pub line-bare : length s ≤ i → (o : List ℕ) → commandLine Unreadable o ≡ lineOf s
   unfolding lineOf lineOfFields spoken
-  line-bare k o = rw (le-leb (length s) maxLine b, parted-none s i h k)
+  line-bare k o = rw (parted-none s i h k) (either (leb (length s) maxLine))
 
-  pub line-spoken : i < length s → (v : Verb) → v ≡ verbOf (take (i - 0) s) → (q : Command) (o : List ℕ)
+  pub line-spoken : length s ≤ maxLine → i < length s → (v : Verb) → v ≡ verbOf (take (i - 0) s) → (q : Command) (o : List ℕ)
       → commandLine q o ≡ spoken v (fields (take (length s - (i + 1)) (drop (i + 1) s))) → commandLine q o ≡ lineOf s
   unfolding lineOf lineOfFields
-  line-spoken k v e q o x =
+  line-spoken b k v e q o x =
       let w : v ≡ verbOf (take i s) = e ∙ ap (λ (j : ℕ). verbOf (take j s)) (sub-zero i) in
       rw (le-leb (length s) maxLine b, parted s i h k, ← w) x
