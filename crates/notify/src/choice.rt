@@ -1,5 +1,6 @@
 // Which removal is sent for a record that leaves a view. A store is lent as memory and a count of records: `old` and `olds`, `new`
 // and `news`.
+use crate::marks::Marks;
 use crate::removal::ALL_CLASSES;
 use crate::removal::ALL_TYPES;
 use crate::removal::RRSET;
@@ -34,7 +35,7 @@ fn alike(
     a: &[u8],
     old: &zone::Area,
     count: usize,
-    gone: &[u8; zone::RECORDS],
+    gone: &Marks,
 ) -> bool
     ensures { λ r. ⌜ r ≡ areAlike (marked (now (gone .entry)) (recordsOf count (now (old .entry)))) (removalAt narrow (recOf (now (a .entry)))) (removalAt wide (recOf (now (a .entry)))) ⌝ }
 {
@@ -54,7 +55,7 @@ fn chosen(
     a: &[u8],
     old: &zone::Area,
     olds: usize,
-    gone: &[u8; zone::RECORDS],
+    gone: &Marks,
     new: &zone::Area,
     news: usize,
 ) -> u8
@@ -79,7 +80,7 @@ fn kind_mark(
     a: &[u8],
     old: &zone::Area,
     olds: usize,
-    gone: &[u8; zone::RECORDS],
+    gone: &Marks,
     new: &zone::Area,
     news: usize,
 ) -> u8
@@ -95,10 +96,10 @@ fn kind_mark(
 pub fn choose(
     old: &zone::Area,
     olds: usize,
-    gone: &[u8; zone::RECORDS],
+    gone: &Marks,
     new: &zone::Area,
     news: usize,
-) -> [u8; zone::RECORDS]
+) -> Marks
     ensures { λ r. ⌜ heads [] r (recordsOf olds (now (old .entry))) ≡ sent (recordsOf news (now (new .entry))) (marked (now (gone .entry)) (recordsOf olds (now (old .entry)))) ⌝ }
 {
     let mut kinds = [0u8; zone::RECORDS];

@@ -11,6 +11,9 @@ ghost use Rattle.session.specs.Table.{subscriptionsOf, subscription};
 ghost use Rattle.push.specs.List.{hasTtl};
 ghost use Rattle.notify.specs.Marks.{marked, leaves as leavesView, enters as entersView, bit};
 
+// A mark for each record of a store.
+pub type Marks = [u8; zone::RECORDS];
+
 // Where a store has a block's record.
 fn find_in(area: &zone::Area, count: usize, b: &[u8]) -> Found
     ensures { λ r. ⌜ r ≡ foundAt (indexOf (keyOf (recOf (now (b .entry)))) (recordsOf count (now (area .entry)))) ⌝ }
@@ -112,7 +115,7 @@ pub fn leaving(
     news: usize,
     subs: &session::Area,
     live: usize,
-) -> [u8; zone::RECORDS]
+) -> Marks
     ensures { λ r. ⌜ marked r (recordsOf olds (now (old .entry))) ≡ keep (leavesView (subscriptionsOf live (now (subs .entry))) (recordsOf news (now (new .entry)))) (recordsOf olds (now (old .entry))) ⌝ }
 {
     let mut marks = [0u8; zone::RECORDS];
@@ -132,7 +135,7 @@ pub fn entering(
     news: usize,
     subs: &session::Area,
     live: usize,
-) -> [u8; zone::RECORDS]
+) -> Marks
     ensures { λ r. ⌜ marked r (recordsOf news (now (new .entry))) ≡ keep (entersView (subscriptionsOf live (now (subs .entry))) (recordsOf olds (now (old .entry)))) (recordsOf news (now (new .entry))) ⌝ }
 {
     let mut marks = [0u8; zone::RECORDS];
@@ -151,7 +154,7 @@ pub fn matched(
     name: &[u8],
     rrtype: u16,
     rrclass: u16,
-) -> [u8; zone::RECORDS]
+) -> Marks
     ensures { λ r. ⌜ marked r (recordsOf count (now (area .entry))) ≡ keep (matching (subscription 0 (now (name .entry)) rrtype rrclass)) (recordsOf count (now (area .entry))) ⌝ }
 {
     let mut marks = [0u8; zone::RECORDS];

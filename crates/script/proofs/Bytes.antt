@@ -14,7 +14,7 @@ use borrow.Author.Tests.{lt-ltb, le-ltb, ltb-true}
 use Rattle.script.specs.Digit.{digitValue, digitOctet}
 use Rattle.script.specs.Hex.{behind, hexBytes, hexOctets}
 use Rattle.script.specs.Code.{decodedBytes}
-use Rattle.script.specs.declared.hex.Decoded.the-variants.{Bytes, NoBytes}
+use Rattle.script.specs.declared.reader.Decoded.the-variants.{Bytes, NoBytes}
 use Rattle.script.proofs.Digits.{digit-read}
 
 behind-none : (o : Option (List ℕ)) → o ≡ behind [] o

@@ -20,8 +20,8 @@ use Rattle.script.specs.declared.verb.Verb.{Verb}
 use Rattle.script.specs.declared.verb.Verb.the-variants.{Open as open-verb, Close as close-verb, Message as message-verb, Batch as batch-verb, Tick as tick-verb, Unknown}
 use Rattle.script.specs.declared.number.Number.{Number}
 use Rattle.script.specs.declared.number.Number.the-variants.{Value, NoNumber}
-use Rattle.script.specs.declared.hex.Decoded.{Decoded}
-use Rattle.script.specs.declared.hex.Decoded.the-variants.{Bytes, NoBytes}
+use Rattle.script.specs.declared.reader.Decoded.{Decoded}
+use Rattle.script.specs.declared.reader.Decoded.the-variants.{Bytes, NoBytes}
 use Rattle.script.specs.declared.reader.Command.{Command}
 use Rattle.script.specs.declared.reader.Command.the-variants.{Open, Close, Message, Batch, Tick, Unreadable}
 use Rattle.script.proofs.Parting.{fields-whole, fields-cases, first-field, parted, parted-none}

@@ -9,8 +9,8 @@ use lib.Seq.{sets}
 use Rattle.script.specs.Line.{Line}
 use Rattle.script.specs.declared.number.Number.{Number}
 use Rattle.script.specs.declared.number.Number.the-variants.{Value, NoNumber}
-use Rattle.script.specs.declared.hex.Decoded.{Decoded}
-use Rattle.script.specs.declared.hex.Decoded.the-variants.{Bytes, NoBytes}
+use Rattle.script.specs.declared.reader.Decoded.{Decoded}
+use Rattle.script.specs.declared.reader.Decoded.the-variants.{Bytes, NoBytes}
 use Rattle.script.specs.declared.reader.Command.{Command}
 use Rattle.script.specs.declared.reader.Command.the-variants.{Open, Close, Message, Batch, Tick, Unreadable}
 use Rattle.script.specs.declared.writer.SessionField.{SessionField}

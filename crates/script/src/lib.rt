@@ -1,10 +1,10 @@
 // The lines of the replay program (01, "The replay program"): reading one, and writing one.
-mod hex;
 mod number;
 mod reader;
 mod verb;
 mod writer;
 
+pub use reader::Bytes;
 pub use reader::Command;
 pub use reader::read_line;
 pub use verb::Verb;

@@ -1,7 +1,6 @@
 // Numbers in decimal digits, and what one digit stands for.
-ghost use Prim.Native.Nat.{_<_};
 ghost use mathlib.Core.Path.{_≡_};
-ghost use Rattle.script.specs.Digit.{digitValue, digitOctet};
+ghost use Rattle.script.specs.Digit.{digitValue};
 ghost use Rattle.script.specs.Number.{number as numberOf, valueOf};
 ghost use Rattle.script.specs.Code.{numberRead};
 
@@ -28,13 +27,6 @@ pub fn digit(b: u8) -> u8
         return b - b'a' + 10;
     }
     16
-}
-
-pub fn digit_octet(d: u8) -> u8
-    requires { ⌜ d < 16 ⌝ }
-    ensures { λ r. ⌜ r ≡ digitOctet d ⌝ }
-{
-    if d < 10 { b'0' + d } else { b'a' - 10 + d }
 }
 
 // The value of decimal digits, whether or not a zero leads them.

@@ -1,18 +1,51 @@
 // A line of input read as a command (01, "The replay program").
-use crate::hex::Decoded;
-use crate::hex::decode;
 use crate::number::Number;
+use crate::number::digit;
 use crate::number::read_number;
 use crate::verb::Verb;
 use crate::verb::verb_of;
-ghost use Prim.Native.Nat.{_≤_};
+ghost use Prim.Native.Nat.{_*_, _≤_};
 ghost use mathlib.Core.Path.{_≡_};
 ghost use lib.ListN.{length};
+ghost use Rattle.script.specs.Hex.{hexBytes};
+ghost use Rattle.script.specs.Code.{decodedBytes, commandLine, Is};
 ghost use Rattle.script.specs.Fields.{fields, FirstTab};
 ghost use Rattle.script.specs.Line.{maxLine, lineOf, timed, spoken};
-ghost use Rattle.script.specs.Code.{commandLine, Is};
 ghost use Rattle.script.specs.declared.verb.Verb.the-variants.{Close, Message, Batch};
 ghost use mathlib.Core.List.{[]};
+
+// Room for the bytes of any line: half of 32,768 hexadecimal digits.
+pub type Bytes = [u8; 16384];
+
+// So many octets stand at the front of the lent memory; or the digits are no whole octets.
+pub enum Decoded {
+    Bytes(usize),
+    NoBytes,
+}
+
+fn decode(s: &[u8], bytes: &mut [u8]) -> Decoded
+    requires { ⌜ length (now s) ≤ 2 * length (now bytes) ⌝ }
+    ensures { λ r. ⌜ decodedBytes r (now (bytes .exit)) ≡ hexBytes (now (s .entry)) ⌝ }
+{
+    if s.len() % 2 != 0 {
+        return Decoded::NoBytes;
+    }
+    let n = s.len() / 2;
+    let mut i = 0;
+    while i < n {
+        let high = digit(s[2 * i]);
+        let low = digit(s[2 * i + 1]);
+        if 15 < high {
+            return Decoded::NoBytes;
+        }
+        if 15 < low {
+            return Decoded::NoBytes;
+        }
+        bytes[i] = high * 16 + low;
+        i += 1;
+    }
+    Decoded::Bytes(n)
+}
 
 // Times and sessions are the line's own numbers; of a message or a batch, so many octets stand at the front of the memory
 // that was lent.
@@ -64,7 +97,7 @@ fn read_close(time: u64, s: &[u8]) -> Command
     Command::Close(time, session)
 }
 
-fn read_batch(time: u64, s: &[u8], bytes: &mut [u8; 16384]) -> Command
+fn read_batch(time: u64, s: &[u8], bytes: &mut Bytes) -> Command
     requires { ⌜ length (now s) ≤ maxLine ⌝ }
     ensures { λ r. ⌜ commandLine r (now (bytes .exit)) ≡ timed Batch time (fields (now (s .entry))) ⌝ }
 {
@@ -74,7 +107,7 @@ fn read_batch(time: u64, s: &[u8], bytes: &mut [u8; 16384]) -> Command
     Command::Batch(time, n)
 }
 
-fn read_message(time: u64, s: &[u8], bytes: &mut [u8; 16384]) -> Command
+fn read_message(time: u64, s: &[u8], bytes: &mut Bytes) -> Command
     requires { ⌜ length (now s) ≤ maxLine ⌝ }
     ensures { λ r. ⌜ commandLine r (now (bytes .exit)) ≡ timed Message time (fields (now (s .entry))) ⌝ }
 {
@@ -92,7 +125,7 @@ fn read_message(time: u64, s: &[u8], bytes: &mut [u8; 16384]) -> Command
 }
 
 // A verb and its time, and the fields behind them.
-fn read_timed(verb: Verb, time: u64, s: &[u8], bytes: &mut [u8; 16384]) -> Command
+fn read_timed(verb: Verb, time: u64, s: &[u8], bytes: &mut Bytes) -> Command
     requires { ⌜ length (now s) ≤ maxLine ⌝ }
     ensures { λ r. ⌜ commandLine r (now (bytes .exit)) ≡ timed verb time (fields (now (s .entry))) ⌝ }
 {
@@ -107,7 +140,7 @@ fn read_timed(verb: Verb, time: u64, s: &[u8], bytes: &mut [u8; 16384]) -> Comma
 }
 
 // A verb, and the fields behind it.
-fn read_spoken(verb: Verb, s: &[u8], bytes: &mut [u8; 16384]) -> Command
+fn read_spoken(verb: Verb, s: &[u8], bytes: &mut Bytes) -> Command
     requires { ⌜ length (now s) ≤ maxLine ⌝ }
     ensures { λ r. ⌜ commandLine r (now (bytes .exit)) ≡ spoken verb (fields (now (s .entry))) ⌝ }
 {
@@ -122,7 +155,7 @@ fn read_spoken(verb: Verb, s: &[u8], bytes: &mut [u8; 16384]) -> Command
 }
 
 // A line without its LF. What stands in the memory behind the octets that the command names is left over.
-pub fn read_line(line: &[u8], bytes: &mut [u8; 16384]) -> Command
+pub fn read_line(line: &[u8], bytes: &mut Bytes) -> Command
     ensures { λ r. ⌜ commandLine r (now (bytes .exit)) ≡ lineOf (now (line .entry)) ⌝ }
 {
     if MAX_LINE < line.len() {

@@ -1,12 +1,12 @@
 // A line of output, octet for octet (01, "The replay program"). Each function answers the place behind what it wrote, which
 // is the end of the memory where it did not all fit.
-use crate::number::digit_octet;
 use crate::verb::Verb;
 use wire::write_octets;
-ghost use Prim.Native.Nat.{_+_, min};
+ghost use Prim.Native.Nat.{_+_, _<_, min};
 ghost use mathlib.Core.Path.{_≡_};
 ghost use mathlib.Core.List.{[], _∷_, _++_};
 ghost use lib.Seq.{sets};
+ghost use Rattle.script.specs.Digit.{digitOctet};
 ghost use Rattle.script.specs.Number.{decimal};
 ghost use Rattle.script.specs.Hex.{hexOctets};
 ghost use Rattle.script.specs.Fields.{tab};
@@ -18,6 +18,13 @@ ghost use Rattle.script.specs.Code.{Written, sessionOf, carried};
 pub enum SessionField {
     Session(u64),
     NoSession,
+}
+
+fn digit_octet(d: u8) -> u8
+    requires { ⌜ d < 16 ⌝ }
+    ensures { λ r. ⌜ r ≡ digitOctet d ⌝ }
+{
+    if d < 10 { b'0' + d } else { b'a' - 10 + d }
 }
 
 const DIGITS: usize = 20;

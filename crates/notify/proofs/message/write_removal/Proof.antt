@@ -1,8 +1,8 @@
--- `notify::octets::write_removal` meets its contract. Assumes nothing.
+-- `notify::message::write_removal` meets its contract. Assumes nothing.
 use borrow.Author.Needs.{needs}
 use Rattle.notify.proofs.Writing.{record-fits, collective-fits, removal-single, removal-collective}
-use Rattle.notify.proofs.octets.write_removal.Statement.{statement}
-use Rattle.notify.proofs.octets.write_removal.Tie as tie
+use Rattle.notify.proofs.message.write_removal.Statement.{statement}
+use Rattle.notify.proofs.message.write_removal.Tie as tie
 
 pub write-removal-spec : {M : Type 1} → statement M
 write-removal-spec =

@@ -1,8 +1,8 @@
--- `script::number::digit_octet` meets its contract. Assumes nothing.
+-- `script::writer::digit_octet` meets its contract. Assumes nothing.
 use borrow.Author.Needs.{needs}
 use Rattle.script.proofs.Digits.{octet-decimal, octet-letter}
-use Rattle.script.proofs.number.digit_octet.Statement.{statement}
-use Rattle.script.proofs.number.digit_octet.Tie as tie
+use Rattle.script.proofs.writer.digit_octet.Statement.{statement}
+use Rattle.script.proofs.writer.digit_octet.Tie as tie
 
 ruleset rules = (octet-decimal, octet-letter, needs)
 

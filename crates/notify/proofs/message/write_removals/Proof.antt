@@ -1,11 +1,11 @@
--- `notify::list::write_removals` meets its contract. The loop's invariant: what is left to write from `end` on makes up the whole. Assumes nothing.
+-- `notify::message::write_removals` meets its contract. The loop's invariant: what is left to write from `end` on makes up the whole. Assumes nothing.
 use Prim.Native.Nat.{_-_}
 use native.Mathlib.Omega.{arith}
 use borrow.Author.Needs.{needs}
 use Rattle.zone.specs.Table.{recordsOf}
 use Rattle.notify.proofs.Sending.{Removing, removing-none, removing-long, removing-turn, removing-all}
-use Rattle.notify.proofs.list.write_removals.Statement.{statement}
-use Rattle.notify.proofs.list.write_removals.Tie as tie
+use Rattle.notify.proofs.message.write_removals.Statement.{statement}
+use Rattle.notify.proofs.message.write_removals.Tie as tie
 
 abbrev Inv-loop : tie.InvT-loop
 Inv-loop out₀ at old olds kinds n end₀ i₀ out end i = Removing out₀ at kinds (recordsOf olds old) out end i

@@ -1,12 +1,12 @@
--- `notify::list::write_additions` meets its contract. The loop's invariant: what is left to write from `end` on makes up the whole. Assumes nothing.
+-- `notify::message::write_additions` meets its contract. The loop's invariant: what is left to write from `end` on makes up the whole. Assumes nothing.
 use Prim.Native.Nat.{_-_}
 use native.Mathlib.Omega.{arith}
 use borrow.Author.Needs.{needs}
 use Rattle.zone.specs.Table.{recordsOf}
 use Rattle.notify.proofs.Heads.{block-short}
 use Rattle.notify.proofs.Sending.{Adding, adding-none, adding-long, adding-turn, adding-all}
-use Rattle.notify.proofs.list.write_additions.Statement.{statement}
-use Rattle.notify.proofs.list.write_additions.Tie as tie
+use Rattle.notify.proofs.message.write_additions.Statement.{statement}
+use Rattle.notify.proofs.message.write_additions.Tie as tie
 
 abbrev Inv-loop : tie.InvT-loop
 Inv-loop out₀ at new news marks n end₀ i₀ out end i = Adding out₀ at marks (recordsOf news new) out end i

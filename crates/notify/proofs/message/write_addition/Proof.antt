@@ -1,8 +1,8 @@
--- `notify::octets::write_addition` meets its contract. Assumes nothing.
+-- `notify::message::write_addition` meets its contract. Assumes nothing.
 use borrow.Author.Needs.{needs}
 use Rattle.notify.proofs.Writing.{record-fits, addition-none, addition-written}
-use Rattle.notify.proofs.octets.write_addition.Statement.{statement}
-use Rattle.notify.proofs.octets.write_addition.Tie as tie
+use Rattle.notify.proofs.message.write_addition.Statement.{statement}
+use Rattle.notify.proofs.message.write_addition.Tie as tie
 
 pub write-addition-spec : {M : Type 1} → statement M
 write-addition-spec =

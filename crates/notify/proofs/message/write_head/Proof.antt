@@ -1,8 +1,8 @@
--- `notify::list::write_head` meets its contract. Assumes nothing.
+-- `notify::message::write_head` meets its contract. Assumes nothing.
 use borrow.Author.Needs.{needs}
 use Rattle.notify.proofs.Heads.{block-short, head-unmarked, head-covered, head-written}
-use Rattle.notify.proofs.list.write_head.Statement.{statement}
-use Rattle.notify.proofs.list.write_head.Tie as tie
+use Rattle.notify.proofs.message.write_head.Statement.{statement}
+use Rattle.notify.proofs.message.write_head.Tie as tie
 
 pub write-head-spec : {M : Type 1} → statement M
 write-head-spec =

@@ -1,9 +1,9 @@
--- `script::hex::decode` meets its contract. The loop's invariant: `i` octets are decoded. Assumes nothing.
+-- `script::reader::decode` meets its contract. The loop's invariant: `i` octets are decoded. Assumes nothing.
 use Prim.Native.Nat.{_-_}
 use borrow.Author.Needs.{needs}
 use Rattle.script.proofs.Bytes.{Decoding, decoding-none, decoding-end, decoding-high, decoding-low, decoding-turn, hex-odd}
-use Rattle.script.proofs.hex.decode.Statement.{statement}
-use Rattle.script.proofs.hex.decode.Tie as tie
+use Rattle.script.proofs.reader.decode.Statement.{statement}
+use Rattle.script.proofs.reader.decode.Tie as tie
 
 abbrev Inv-loop : tie.InvT-loop
 Inv-loop s bytes₀ n i₀ bytes i = Decoding s bytes₀ bytes i

@@ -1,8 +1,8 @@
--- `notify::octets::removal_class` meets its contract. Assumes nothing.
+-- `notify::message::removal_class` meets its contract. Assumes nothing.
 use borrow.Author.Needs.{needs}
 use Rattle.notify.proofs.Writing.{class-named, class-any}
-use Rattle.notify.proofs.octets.removal_class.Statement.{statement}
-use Rattle.notify.proofs.octets.removal_class.Tie as tie
+use Rattle.notify.proofs.message.removal_class.Statement.{statement}
+use Rattle.notify.proofs.message.removal_class.Tie as tie
 
 pub removal-class-spec : {M : Type 1} → statement M
 removal-class-spec =
