@@ -1,0 +1,3 @@
+-- Laws of receiving a message.
+pub mod Effects
+pub mod Requests

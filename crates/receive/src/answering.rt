@@ -1,0 +1,1 @@
+// A received message: judged, and answered by its judgment.
