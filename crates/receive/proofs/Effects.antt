@@ -8,16 +8,15 @@ use Rattle.session.specs.declared.clocks.Clocks.{Clocks}
 use Rattle.service.specs.State.{Session}
 use Rattle.service.specs.Message.{reply}
 use Rattle.service.specs.Message.{Effect as Meant}
-use Rattle.receive.specs.Effect.{sessionOf, bytesOf, effectOn, effectIs, bytesIn, replied, Does}
+use Rattle.receive.specs.Effect.{sessionOf, bytesOf, effectOn, effectIs, bytesIn, handed, replied, Does}
 use Rattle.receive.specs.declared.effect.Received.{Received}
 use Rattle.receive.specs.declared.effect.Effect.{Effect}
 use Rattle.receive.specs.declared.effect.Effect.the-variants.{Abort, Nothing, Reply, Others, Places}
 
 -- As many bytes as were written.
-pub reply-counted : (clocks : Clocks) (count n : ℕ) (w : List ℕ) → n ≡ length w
-    → _≡_ {A = Received} (record { clocks = clocks; count = count; effect = Reply n }) (replied clocks count w)
-reply-counted clocks count n w e =
-    ap (λ (k : ℕ). let r : Received = record { clocks = clocks; count = count; effect = Reply k } in r) e
+pub reply-counted : (clocks : Clocks) (count n : ℕ) (w : List ℕ) (r : Received) → n ≡ length w → r ≡ handed clocks count (Reply n)
+    → r ≡ replied clocks count w
+reply-counted clocks count n w r e h = h ∙ ap (λ (k : ℕ). handed clocks count (Reply k)) e
 
 no-bytes : (x : Effect) (s : Session) → bytesOf (effectOn x s []) ≡ []
 no-bytes Abort s = refl
@@ -27,13 +26,15 @@ no-bytes Others s = refl
 no-bytes (Places p) s = refl
 
 -- An effect without bytes, and the output as it was.
-pub does-quietly : (e : Meant) (r : Received) (area o : List ℕ) → e ≡ effectIs r area [] → bytesIn (r .effect) ≡ 0 → Does e r area o o
-does-quietly e r area o h k =
-    let b : bytesOf e ≡ [] = ap bytesOf h ∙ no-bytes (r .effect) (sessionOf (r .clocks) (r .count) area) in
+pub does-quietly : (e : Meant) (clocks : Clocks) (count : ℕ) (x : Effect) (r : Received) (area o : List ℕ)
+    → e ≡ effectOn x (sessionOf clocks count area) [] → bytesIn x ≡ 0 → r ≡ handed clocks count x → Does e r area o o
+does-quietly e clocks count x r area o h k g =
+    let s : Session = sessionOf clocks count area in
+    let b : bytesOf e ≡ [] = ap bytesOf h ∙ no-bytes x s in
     record {
-      means = h ∙ ap (effectIs r area) (sym b);
+      means = h ∙ ap (effectOn x s) (sym b) ∙ ap (λ (y : Received). effectIs y area (bytesOf e)) (sym g);
       written = sym (ap (sets o 0) b);
-      counted = k ∙ sym (ap length b);
+      counted = ap (λ (y : Received). bytesIn (y .effect)) g ∙ k ∙ sym (ap length b);
     }
 
 -- A reply of bytes that are written.

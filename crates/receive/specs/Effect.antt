@@ -44,9 +44,17 @@ bytesIn (Places p) = 0
 abbrev pub effectIs : Received → List ℕ → List ℕ → Meant
 effectIs r area w = effectOn (r .effect) (sessionOf (r .clocks) (r .count) area) w
 
--- What is handed back with a reply of these bytes.
+-- What is handed back, and with a reply of these bytes.
+abbrev pub handed : Clocks → ℕ → Effect → Received
+handed clocks count effect = record { clocks = clocks; count = count; effect = effect }
+
 abbrev pub replied : Clocks → ℕ → List ℕ → Received
-replied clocks count w = record { clocks = clocks; count = count; effect = Reply (length w) }
+replied clocks count w = handed clocks count (Reply (length w))
+
+-- Bytes written from the front of the output on, and how many they are.
+pub record Writes (w : List ℕ) (n : ℕ) (before after : List ℕ) : Type 0 where
+  pub counted : n ≡ length w
+  pub written : after ≡ sets before 0 w
 
 -- Code does what an effect says: what it hands back, with the table of subscriptions as it is then, is the effect; the
 -- effect's bytes, and they alone, are written, from the front of the output on; and they are as many as is said.

@@ -7,7 +7,7 @@ ghost use mathlib.Core.Path.{_≡_};
 ghost use lib.ListN.{length};
 ghost use lib.Seq.{sets};
 ghost use Rattle.dso.specs.Response.{responseOctets};
-ghost use Rattle.receive.specs.Effect.{replied};
+ghost use Rattle.receive.specs.Effect.{handed, replied};
 
 pub enum Effect {
     // The session is forcibly aborted.
@@ -30,14 +30,26 @@ pub struct Received {
     pub effect: Effect,
 }
 
-// A response alone, at the front of the output.
-pub fn reply(clocks: Clocks, count: usize, id: MessageId, response: Response, out: &mut [u8]) -> Received
-    ensures { λ r. ⌜ (r ≡ replied clocks count (responseOctets (id .0) response)) × (now (out .exit) ≡ sets (now (out .entry)) 0 (responseOctets (id .0) response)) ⌝ }
+pub fn outcome(clocks: Clocks, count: usize, effect: Effect) -> Received
+    ensures { λ r. ⌜ r ≡ handed clocks count effect ⌝ }
 {
-    let n = dso::write_response(out, id, response);
     Received {
         clocks,
         count,
-        effect: Effect::Reply(n),
+        effect,
     }
+}
+
+// A response alone, at the front of the output.
+pub fn reply(
+    clocks: Clocks,
+    count: usize,
+    id: MessageId,
+    response: Response,
+    out: &mut [u8],
+) -> Received
+    ensures { λ r. ⌜ (r ≡ replied clocks count (responseOctets (id .0) response)) × (now (out .exit) ≡ sets (now (out .entry)) 0 (responseOctets (id .0) response)) ⌝ }
+{
+    let n = dso::write_response(out, id, response);
+    outcome(clocks, count, Effect::Reply(n))
 }

@@ -1,6 +1,7 @@
 // Keepalive (RFC 8490, 7.1).
 use crate::effect::Effect;
 use crate::effect::Received;
+use crate::effect::outcome;
 use crate::effect::reply;
 use dso::MessageId;
 use dso::Response;
@@ -20,11 +21,7 @@ pub fn keep_alive(
     ensures { λ r. ⌜ Does (keptAlive id (sessionOf clocks count (now (subs .entry)))) r (now (subs .entry)) (now (out .entry)) (now (out .exit)) ⌝ }
 {
     if session::uses_id(subs, count, id.0) {
-        return Received {
-            clocks,
-            count,
-            effect: Effect::Abort,
-        };
+        return outcome(clocks, count, Effect::Abort);
     }
     let timeouts = dso::granted();
     let then = session::granted(clocks, timeouts.inactivity, timeouts.keepalive);

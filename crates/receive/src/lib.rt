@@ -4,5 +4,6 @@ mod effect;
 mod keepalive;
 mod subscribing;
 
+pub use answering::receive;
 pub use effect::Effect;
 pub use effect::Received;

@@ -9,6 +9,7 @@ keep-alive-spec =
     tie.close
     (tie.spec
     (λ c κs. search needs)
+    (λ c κs. search needs)
     (λ c. search kept-used)
     (λ c κs. search needs)
     (λ c κs. search needs)
