@@ -1,0 +1,5 @@
+// Change notifications in octets: the PUSH for a session from an old and a new store, and the first PUSH of a subscription.
+mod choice;
+mod marks;
+mod octets;
+mod removal;
