@@ -5,3 +5,6 @@ pub mod Marked
 pub mod Lookups
 pub mod Choices
 pub mod Writing
+pub mod Heads
+pub mod Sending
+pub mod Messages

@@ -79,7 +79,7 @@ module _ (at : ℕ) (b : List ℕ) (p : (at + room < 2 ^ 64) × (length b ≤ bl
   collective-fits d f = omega (arith, p .0, p .1, owner-short b, ap length e, ap length f)
 
 step-of : (o : List ℕ) (at : ℕ) (x : Record) (p : List ℕ) (t : ℕ) → length (x .owner) ≤ blockSize → length (x .rdata) ≤ blockSize
-    → Wrote o at (recordOctets x) p t → Step o at (recordOctets x) p t
+    → Wrote o at (recordOctets x) p t → Step room o at (recordOctets x) p t
 unfolding size
 step-of o at x p t h k w = record { wrote = w; near = omega (arith, w .place, length-recordOctets x) }
 
@@ -149,7 +149,7 @@ moved o at x y p t e w = record {
 module _ (out : List ℕ) (at : ℕ) (k : ℕ) (b : List ℕ) (s : (at + room < 2 ^ 64) × (length b ≤ blockSize)) (o : List ℕ) (e : o ≡ recOf b .owner) (t c : ℕ) (d p : List ℕ) (r : ℕ) where
   pub removal-single : k ≡ 0 → t ≡ recOf b .rrtype → c ≡ recOf b .rrclass → d ≡ recOf b .rdata
       → Wrote out at (recordOctets (recordFrom o t c 0xffff_ffff d)) p r
-      → Step out at (recordOctets (fieldsOf (removal (removalAt k (recOf b))))) p r
+      → Step room out at (recordOctets (fieldsOf (removal (removalAt k (recOf b))))) p r
   unfolding removalFields
   removal-single h f g i w =
       let x : Record = recOf b in
@@ -166,7 +166,7 @@ module _ (out : List ℕ) (at : ℕ) (k : ℕ) (b : List ℕ) (s : (at + room < 
   pub removal-collective : (k ≡ 0 → ⊥) → t ≡ fieldsOf (removal (removalAt k (recOf b))) .rrtype
       → c ≡ fieldsOf (removal (removalAt k (recOf b))) .rrclass → d ≡ part b 0 0
       → Wrote out at (recordOctets (recordFrom o t c 0xffff_fffe d)) p r
-      → Step out at (recordOctets (fieldsOf (removal (removalAt k (recOf b))))) p r
+      → Step room out at (recordOctets (fieldsOf (removal (removalAt k (recOf b))))) p r
   unfolding removalFields
   removal-collective h f g i w =
       let x : Record = recOf b in
@@ -181,20 +181,20 @@ module _ (out : List ℕ) (at : ℕ) (k : ℕ) (b : List ℕ) (s : (at + room < 
 
 -- ---- an addition
 
-pub nothing-written : (o : List ℕ) (at : ℕ) (x : List ℕ) → x ≡ [] → Step o at x o at
+pub nothing-written : (o : List ℕ) (at : ℕ) (x : List ℕ) → x ≡ [] → Step room o at x o at
 nothing-written o at x e = record {
   wrote = record { written = sym (ap (sets o at) e); place = sym (ap (λ (y : List ℕ). at + length y) e ∙ add-zero at) };
   near = omega arith;
 }
 
-pub addition-none : (o : List ℕ) (at mark : ℕ) (r : Record) → mark ≡ 0 → Step o at (changesOctets (additionAt mark r)) o at
+pub addition-none : (o : List ℕ) (at mark : ℕ) (r : Record) → mark ≡ 0 → Step room o at (changesOctets (additionAt mark r)) o at
 addition-none o at mark r h = nothing-written o at (changesOctets (additionAt mark r)) (unfold additionAt changesOctets in ap (λ (b : Bool). changesOctets (onlyIf b (addition r) [])) (mark-none mark h))
 
 one-addition : (mark : ℕ) (r : Record) → (mark ≡ 0 → ⊥) → changesOctets (additionAt mark r) ≡ recordOctets r
 unfolding additionAt changesOctets fieldsOf
 one-addition mark r h = ap (λ (b : Bool). changesOctets (onlyIf b (addition r) [])) (mark-some mark h) ∙ append-nil (recordOctets r)
 
-stepped : (o : List ℕ) (at : ℕ) (x y p : List ℕ) (t : ℕ) → x ≡ y → Step o at x p t → Step o at y p t
+pub stepped : (o : List ℕ) (at : ℕ) (x y p : List ℕ) (t : ℕ) → x ≡ y → Step room o at x p t → Step room o at y p t
 stepped o at x y p t e s = record {
   wrote = record { written = s .wrote .written ∙ ap (sets o at) e; place = s .wrote .place ∙ ap (λ (z : List ℕ). at + length z) e };
   near = s .near;
@@ -202,7 +202,7 @@ stepped o at x y p t e s = record {
 
 module _ (out : List ℕ) (at : ℕ) (mark : ℕ) (b : List ℕ) (s : (at + room < 2 ^ 64) × (length b ≤ blockSize)) (o : List ℕ) (e : o ≡ recOf b .owner) (t c ttl : ℕ) (d p : List ℕ) (r : ℕ) where
   pub addition-written : (mark ≡ 0 → ⊥) → t ≡ recOf b .rrtype → c ≡ recOf b .rrclass → ttl ≡ recOf b .ttl → d ≡ recOf b .rdata
-      → Wrote out at (recordOctets (recordFrom o t c ttl d)) p r → Step out at (changesOctets (additionAt mark (recOf b))) p r
+      → Wrote out at (recordOctets (recordFrom o t c ttl d)) p r → Step room out at (changesOctets (additionAt mark (recOf b))) p r
   addition-written h f g j i w =
       let x : Record = recOf b in
       let y : recordFrom o t c ttl d ≡ x = λ n. recordFrom (e n) (f n) (g n) (j n) (i n) in

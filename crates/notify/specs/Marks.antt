@@ -66,6 +66,10 @@ heads earlier ms (r ∷ l) =
     onlyIf (isMarked (firstMark ms) && isHead earlier r) (removalOf (firstMark ms) r)
     (heads (earlier ++ onlyIf (isMarked (firstMark ms)) (removalOf (firstMark ms) r) []) (drop 1 ms) l)
 
+-- Whether a marked record's removal covers another.
+unfoldable pub markCovers : ℕ → Record → Record → Bool
+markCovers mark e r = isMarked mark && covers (removalOf mark e) (keyOf r)
+
 -- What is written for one record: its removal where it is one of those; its addition where it is marked.
 unfoldable pub headAt : List Removal → ℕ → Record → List Change
 headAt earlier mark r = onlyIf (isMarked mark && isHead earlier r) (removal (removalOf mark r)) []

@@ -21,10 +21,10 @@ pub record Wrote (o : List ℕ) (at : ℕ) (octets p : List ℕ) (t : ℕ) : Typ
 abbrev pub room : ℕ
 room = 1024
 
--- The same of a part that is at most that long.
-pub record Step (o : List ℕ) (at : ℕ) (octets p : List ℕ) (t : ℕ) : Type 0 where
+-- The same of octets that are at most so many.
+pub record Step (most : ℕ) (o : List ℕ) (at : ℕ) (octets p : List ℕ) (t : ℕ) : Type 0 where
   pub wrote : Wrote o at octets p t
-  pub near : t ≤ at + room
+  pub near : t ≤ at + most
 
 -- What stands in front of the changes of a PUSH: the length prefix, the header, and the TLV's type and length.
 abbrev pub frontLength : ℕ
@@ -39,6 +39,11 @@ fronted end = cond (eqb end frontLength) [] (front (end - frontLength))
 
 unfoldable pub counted : ℕ → ℕ
 counted end = cond (eqb end frontLength) 0 end
+
+-- The front was written; r is the length of the whole PUSH.
+pub record Fronted (o : List ℕ) (end : ℕ) (p : List ℕ) (r : ℕ) : Type 0 where
+  pub written : p ≡ sets o 0 (fronted end)
+  pub count : r ≡ counted end
 
 -- A PUSH was written from the front of the memory on, and r is its length.
 pub record Pushed (o : List ℕ) (cs : List Change) (p : List ℕ) (r : ℕ) : Type 0 where

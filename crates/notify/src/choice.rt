@@ -28,7 +28,14 @@ fn tells_apart(mark: u8, narrow: u8, wide: u8, a: &[u8], b: &[u8]) -> bool
 }
 
 // Whether two removals at a's record cover the same of the marked records.
-fn alike(narrow: u8, wide: u8, a: &[u8], old: &[u8; zone::AREA], count: usize, gone: &[u8; zone::RECORDS]) -> bool
+fn alike(
+    narrow: u8,
+    wide: u8,
+    a: &[u8],
+    old: &[u8; zone::AREA],
+    count: usize,
+    gone: &[u8; zone::RECORDS],
+) -> bool
     ensures { λ r. ⌜ r ≡ areAlike (marked (now (gone .entry)) (recordsOf count (now (old .entry)))) (removalAt narrow (recOf (now (a .entry)))) (removalAt wide (recOf (now (a .entry)))) ⌝ }
 {
     let n = zone::clamped(count);

@@ -85,7 +85,7 @@ fn removal_class(kind: u8, b: &[u8]) -> u16
 // The removal of a kind at a block's record.
 pub fn write_removal(out: &mut [u8], at: usize, kind: u8, b: &[u8]) -> usize
     requires { ⌜ (at + room < 2 ^ 64) × (length (now b) ≤ blockSize) ⌝ }
-    ensures { λ r. ⌜ Step (now (out .entry)) at (recordOctets (fieldsOf (removal (removalAt kind (recOf (now (b .entry))))))) (now (out .exit)) r ⌝ }
+    ensures { λ r. ⌜ Step room (now (out .entry)) at (recordOctets (fieldsOf (removal (removalAt kind (recOf (now (b .entry))))))) (now (out .exit)) r ⌝ }
 {
     if kind == SINGLE {
         return write_record(
@@ -112,7 +112,7 @@ pub fn write_removal(out: &mut [u8], at: usize, kind: u8, b: &[u8]) -> usize
 // The addition of a block's record, where it is marked.
 pub fn write_addition(out: &mut [u8], at: usize, mark: u8, b: &[u8]) -> usize
     requires { ⌜ (at + room < 2 ^ 64) × (length (now b) ≤ blockSize) ⌝ }
-    ensures { λ r. ⌜ Step (now (out .entry)) at (changesOctets (additionAt mark (recOf (now (b .entry))))) (now (out .exit)) r ⌝ }
+    ensures { λ r. ⌜ Step room (now (out .entry)) at (changesOctets (additionAt mark (recOf (now (b .entry))))) (now (out .exit)) r ⌝ }
 {
     if mark == 0 {
         return at;

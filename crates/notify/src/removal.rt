@@ -18,7 +18,13 @@ pub const ALL_CLASSES: u8 = 3;
 fn same_record(a: &[u8], b: &[u8]) -> bool
     ensures { λ r. ⌜ r ≡ sameKey (keyOf (recOf (now (a .entry)))) (keyOf (recOf (now (b .entry)))) ⌝ }
 {
-    zone::has_key(a, zone::owner(b), zone::rrtype(b), zone::rrclass(b), zone::rdata(b))
+    zone::has_key(
+        a,
+        zone::owner(b),
+        zone::rrtype(b),
+        zone::rrclass(b),
+        zone::rdata(b),
+    )
 }
 
 // Whether b has the class and the type that a collective removal of a kind at a names.
