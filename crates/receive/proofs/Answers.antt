@@ -1,15 +1,14 @@
 -- Laws of answering by a judgment, and of the whole message.
 use Prim.Native.Nat.{ℕ, _≤_}
 use native.Mathlib.Omega.{arith}
-use mathlib.Core.Bool.{Bool}
-use mathlib.Core.List.{List, []}
+use mathlib.Core.List.{List}
 use mathlib.Core.Path.{_≡_, refl, sym, ap, subst, _∙_}
-use lib.ListN.{length, take, drop, length-take}
+use lib.ListN.{length, drop, length-take}
 use lib.Seq.{sets}
 use Rattle.wire.specs.Field.{field}
 use Rattle.wire.specs.Name.{maxName}
 use Rattle.wire.proofs.Names.{nameLength-max}
-use Rattle.dso.specs.Judge.{dataStart, judgment, judged, question}
+use Rattle.dso.specs.Judge.{dataStart, judgment, judged}
 use Rattle.dso.specs.Response.{responseOctets}
 use Rattle.dso.specs.declared.judgment.Place.{Place}
 use Rattle.dso.specs.declared.judgment.Question.{Question}

@@ -6,8 +6,7 @@ use lib.ListN.{length}
 use lib.Seq.{sets}
 use Rattle.session.specs.declared.clocks.Clocks.{Clocks}
 use Rattle.service.specs.State.{Session}
-use Rattle.service.specs.Message.{reply}
-use Rattle.service.specs.Message.{Effect as Meant}
+use Rattle.service.specs.Message.{Effect as Meant, reply}
 use Rattle.receive.specs.Effect.{sessionOf, bytesOf, effectOn, effectIs, bytesIn, handed, replied, Does}
 use Rattle.receive.specs.declared.effect.Received.{Received}
 use Rattle.receive.specs.declared.effect.Effect.{Effect}

@@ -21,7 +21,6 @@ use Rattle.receive.specs.Effect.{sessionOf, handed, replied, Does}
 use Rattle.receive.specs.Subscribe.{admits, admission}
 use Rattle.receive.specs.declared.effect.Received.{Received}
 use Rattle.receive.specs.declared.effect.Effect.the-variants.{Abort}
-use Rattle.receive.specs.declared.subscribing.Admission.{Admission}
 use Rattle.receive.specs.declared.subscribing.Admission.the-variants.{Abort as Aborts, Refuse, Accept}
 use Rattle.receive.proofs.Effects.{does-quietly, does-reply}
 

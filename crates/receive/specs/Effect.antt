@@ -7,8 +7,7 @@ use lib.Seq.{sets}
 use Rattle.session.specs.declared.clocks.Clocks.{Clocks}
 use Rattle.session.specs.Table.{subscriptionsOf}
 use Rattle.service.specs.State.{Session}
-use Rattle.service.specs.Message.{abort, nothing, reply, others, places}
-use Rattle.service.specs.Message.{Effect as Meant}
+use Rattle.service.specs.Message.{Effect as Meant, abort, nothing, reply, others, places}
 use Rattle.receive.specs.declared.effect.Received.{Received}
 use Rattle.receive.specs.declared.effect.Effect.{Effect}
 use Rattle.receive.specs.declared.effect.Effect.the-variants.{Abort, Nothing, Reply, Others, Places}

@@ -4,7 +4,6 @@ use dso::Record;
 use dso::Response;
 use session::Clocks;
 ghost use mathlib.Core.Path.{_≡_};
-ghost use lib.ListN.{length};
 ghost use lib.Seq.{sets};
 ghost use Rattle.dso.specs.Response.{responseOctets};
 ghost use Rattle.receive.specs.Effect.{handed, replied};

@@ -6,7 +6,6 @@ use crate::effect::reply;
 use dso::MessageId;
 use dso::Response;
 use session::Clocks;
-ghost use mathlib.Core.Path.{_≡_};
 ghost use Rattle.service.specs.Message.{keptAlive};
 ghost use Rattle.receive.specs.Effect.{Does, sessionOf};
 
