@@ -29,14 +29,7 @@ fn tells_apart(mark: u8, narrow: u8, wide: u8, a: &[u8], b: &[u8]) -> bool
 }
 
 // Whether two removals at a's record cover the same of the marked records.
-fn alike(
-    narrow: u8,
-    wide: u8,
-    a: &[u8],
-    old: &zone::Area,
-    count: usize,
-    gone: &Marks,
-) -> bool
+fn alike(narrow: u8, wide: u8, a: &[u8], old: &zone::Area, count: usize, gone: &Marks) -> bool
     ensures { λ r. ⌜ r ≡ areAlike (marked (now (gone .entry)) (recordsOf count (now (old .entry)))) (removalAt narrow (recOf (now (a .entry)))) (removalAt wide (recOf (now (a .entry)))) ⌝ }
 {
     let n = zone::clamped(count);
@@ -93,13 +86,7 @@ fn kind_mark(
 }
 
 // The marks that stand for the removals of the marked records.
-pub fn choose(
-    old: &zone::Area,
-    olds: usize,
-    gone: &Marks,
-    new: &zone::Area,
-    news: usize,
-) -> Marks
+pub fn choose(old: &zone::Area, olds: usize, gone: &Marks, new: &zone::Area, news: usize) -> Marks
     ensures { λ r. ⌜ heads [] r (recordsOf olds (now (old .entry))) ≡ sent (recordsOf news (now (new .entry))) (marked (now (gone .entry)) (recordsOf olds (now (old .entry)))) ⌝ }
 {
     let mut kinds = [0u8; zone::RECORDS];

@@ -60,13 +60,7 @@ fn is_wanted(subs: &session::Area, live: usize, b: &[u8]) -> bool
     )
 }
 
-fn leaves(
-    b: &[u8],
-    subs: &session::Area,
-    live: usize,
-    new: &zone::Area,
-    news: usize,
-) -> u8
+fn leaves(b: &[u8], subs: &session::Area, live: usize, new: &zone::Area, news: usize) -> u8
     ensures { λ r. ⌜ r ≡ bit (leavesView (subscriptionsOf live (now (subs .entry))) (recordsOf news (now (new .entry))) (recOf (now (b .entry)))) ⌝ }
 {
     if is_wanted(subs, live, b) {
@@ -78,13 +72,7 @@ fn leaves(
     0
 }
 
-fn enters(
-    b: &[u8],
-    subs: &session::Area,
-    live: usize,
-    old: &zone::Area,
-    olds: usize,
-) -> u8
+fn enters(b: &[u8], subs: &session::Area, live: usize, old: &zone::Area, olds: usize) -> u8
     ensures { λ r. ⌜ r ≡ bit (entersView (subscriptionsOf live (now (subs .entry))) (recordsOf olds (now (old .entry))) (recOf (now (b .entry)))) ⌝ }
 {
     if is_wanted(subs, live, b) {
@@ -148,13 +136,7 @@ pub fn entering(
     marks
 }
 
-pub fn matched(
-    area: &zone::Area,
-    count: usize,
-    name: &[u8],
-    rrtype: u16,
-    rrclass: u16,
-) -> Marks
+pub fn matched(area: &zone::Area, count: usize, name: &[u8], rrtype: u16, rrclass: u16) -> Marks
     ensures { λ r. ⌜ marked r (recordsOf count (now (area .entry))) ≡ keep (matching (subscription 0 (now (name .entry)) rrtype rrclass)) (recordsOf count (now (area .entry))) ⌝ }
 {
     let mut marks = [0u8; zone::RECORDS];

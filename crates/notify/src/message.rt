@@ -188,13 +188,7 @@ fn write_head(
     at
 }
 
-fn write_removals(
-    out: &mut [u8],
-    at: usize,
-    old: &zone::Area,
-    olds: usize,
-    kinds: &Marks,
-) -> usize
+fn write_removals(out: &mut [u8], at: usize, old: &zone::Area, olds: usize, kinds: &Marks) -> usize
     requires { ⌜ at ≤ 65536 ⌝ }
     ensures { λ r. ⌜ Step (room * maxRecords) (now (out .entry)) at (changesOctets (map removal (heads [] (now (kinds .entry)) (recordsOf olds (now (old .entry)))))) (now (out .exit)) r ⌝ }
 {
@@ -208,13 +202,7 @@ fn write_removals(
     end
 }
 
-fn write_additions(
-    out: &mut [u8],
-    at: usize,
-    new: &zone::Area,
-    news: usize,
-    marks: &Marks,
-) -> usize
+fn write_additions(out: &mut [u8], at: usize, new: &zone::Area, news: usize, marks: &Marks) -> usize
     requires { ⌜ at ≤ 65536 ⌝ }
     ensures { λ r. ⌜ Wrote (now (out .entry)) at (changesOctets (additions (marked (now (marks .entry)) (recordsOf news (now (new .entry)))))) (now (out .exit)) r ⌝ }
 {
@@ -271,12 +259,7 @@ fn write_changes(
 }
 
 // The PUSH of additions alone.
-fn write_added(
-    out: &mut [u8],
-    new: &zone::Area,
-    news: usize,
-    added: &Marks,
-) -> usize
+fn write_added(out: &mut [u8], new: &zone::Area, news: usize, added: &Marks) -> usize
     ensures { λ r. ⌜ Pushed (now (out .entry)) (additions (marked (now (added .entry)) (recordsOf news (now (new .entry))))) (now (out .exit)) r ⌝ }
 {
     let end = write_additions(out, FRONT, new, news, added);

@@ -1,7 +1,12 @@
-// A received message, carried out on the session that it came on.
+// Message: one whole DNS message of a session, without its length prefix, and how its session receives it.
 use crate::answer::Answer;
 use crate::answer::Counts;
 use crate::answer::Outcome;
+use crate::answer::refused;
+use crate::checks::Brought;
+use crate::checks::Checked;
+use crate::checks::Given;
+use crate::checks::check;
 use crate::starting::Name;
 use crate::state::Server;
 use crate::state::Session;
@@ -11,6 +16,7 @@ use crate::state::vacant;
 use receive::Effect;
 use receive::Received;
 use receive::receive;
+use service::SessionNumber;
 use table::part;
 ghost use Prim.Native.Nat.{_*_, _≤_, _<_};
 ghost use mathlib.Core.Path.{_≡_};
@@ -20,9 +26,12 @@ ghost use Rattle.zone.specs.Table.{recordsOf};
 ghost use Rattle.service.specs.State.{maxSessions};
 ghost use Rattle.service.specs.Checks.{outputSize, leastOutput};
 ghost use Rattle.service.specs.Message.{messageEffect};
-ghost use Rattle.server.specs.Memory.{sessionOf};
+ghost use Rattle.server.specs.Memory.{sessionOf, memoryOf, stateOf};
 ghost use Rattle.server.specs.Numbers.{sessionAt};
 ghost use Rattle.server.specs.Delivery.{DoesAt, Turns, Delivers, countAt, answerTo, sessionAfter, concludedOf};
+ghost use lib.Pow.{areBytes};
+ghost use Rattle.service.specs.Call.{outcome, receives};
+ghost use Rattle.server.specs.Answers.{Gives};
 
 // 01: "session s writes from s x 16,384".
 const OUTPUT: usize = 16384;
@@ -137,7 +146,7 @@ fn turn(
 }
 
 // The session of a number has its own subscriptions.
-pub fn deliver(
+fn deliver(
     server: Server,
     zone: &Name,
     store: &zone::Area,
@@ -164,4 +173,39 @@ pub fn deliver(
         return turn(server, zone, store, s2, t, 2, m, out);
     }
     turn(server, zone, store, s3, t, 3, m, out)
+}
+
+pub fn message(
+    server: Server,
+    zone: &Name,
+    first: &zone::Area,
+    second: &zone::Area,
+    s0: &mut session::Area,
+    s1: &mut session::Area,
+    s2: &mut session::Area,
+    s3: &mut session::Area,
+    time: u64,
+    session: SessionNumber,
+    m: &[u8],
+    out: &mut [u8],
+) -> Outcome
+    ensures { λ r. ⌜ ((small : areBytes (now (m .entry)) ≡ true) → Gives server r (memoryOf (now (zone .entry)) (now (first .entry)) (now (second .entry)) (now (s0 .exit)) (now (s1 .exit)) (now (s2 .exit)) (now (s3 .exit))) (now (out .exit)) (outcome (stateOf server (memoryOf (now (zone .entry)) (now (first .entry)) (now (second .entry)) (now (s0 .entry)) (now (s1 .entry)) (now (s2 .entry)) (now (s3 .entry)))) (receives time (session .0) (record { list = now (m .entry); small = small }) (now (out .entry))))) ⌝ }
+{
+    let i = session.0;
+    let b = Brought {
+        output: Given::Is(out.len() as u64),
+        time,
+        session: Given::Is(i),
+        message: Given::Is(m.len() as u64),
+    };
+    match check(server, b) {
+        Checked::Refuse(why) => refused(server, why),
+        Checked::Pass => {
+            if server.second {
+                deliver(server, zone, second, s0, s1, s2, s3, time, i, m, out)
+            } else {
+                deliver(server, zone, first, s0, s1, s2, s3, time, i, m, out)
+            }
+        }
+    }
 }

@@ -1,8 +1,8 @@
--- `receive::answering::answer` meets its contract. Assumes nothing.
+-- `receive::subscribing::answer` meets its contract. Assumes nothing.
 use borrow.Author.Needs.{needs}
 use Rattle.receive.proofs.Answers.{name-short, answer-others, answer-abort, answer-error, answer-keepalive, answer-subscribe, answer-fewer, answer-places}
-use Rattle.receive.proofs.answering.answer.Statement.{statement}
-use Rattle.receive.proofs.answering.answer.Tie as tie
+use Rattle.receive.proofs.subscribing.answer.Statement.{statement}
+use Rattle.receive.proofs.subscribing.answer.Tie as tie
 
 pub answer-spec : {M : Type 1} → statement M
 answer-spec =

@@ -1,8 +1,8 @@
--- `server::editing::edit` meets its contract: a fault, or the new store and what the sessions are told. Assumes nothing.
+-- `server::pushing::edit` meets its contract: a fault, or the new store and what the sessions are told. Assumes nothing.
 use borrow.Author.Needs.{needs}
 use Rattle.server.proofs.Pushed.{edits-faulty, edits-stored}
-use Rattle.server.proofs.editing.edit.Statement.{statement}
-use Rattle.server.proofs.editing.edit.Tie as tie
+use Rattle.server.proofs.pushing.edit.Statement.{statement}
+use Rattle.server.proofs.pushing.edit.Tie as tie
 
 returns : tie.Need-returns
 returns c =

@@ -1,8 +1,8 @@
--- `receive::answering::receive` meets its contract. Assumes nothing.
+-- `receive::subscribing::receive` meets its contract. Assumes nothing.
 use borrow.Author.Needs.{needs}
 use Rattle.receive.proofs.Answers.{judgment-known, message-answered}
-use Rattle.receive.proofs.answering.receive.Statement.{statement}
-use Rattle.receive.proofs.answering.receive.Tie as tie
+use Rattle.receive.proofs.subscribing.receive.Statement.{statement}
+use Rattle.receive.proofs.subscribing.receive.Tie as tie
 
 pub receive-spec : {M : Type 1} → statement M
 receive-spec =

@@ -1,12 +1,12 @@
--- `server::editing::batch` meets its contract: the checks, then the edits. Assumes nothing.
+-- `server::pushing::batch` meets its contract: the checks, then the edits. Assumes nothing.
 use mathlib.Core.Bool.{true, false}
 use borrow.Author.Needs.{needs}
 use Rattle.service.specs.Call.{edits}
 use Rattle.server.specs.Memory.{memoryOf}
 use Rattle.server.proofs.Outcomes.{gives-refused}
 use Rattle.server.proofs.Pushed.{roomy, edited-batch}
-use Rattle.server.proofs.editing.batch.Statement.{statement}
-use Rattle.server.proofs.editing.batch.Tie as tie
+use Rattle.server.proofs.pushing.batch.Statement.{statement}
+use Rattle.server.proofs.pushing.batch.Tie as tie
 
 edit-requires : tie.Need-edit-requires
 edit-requires c κs = let a = c .before .before .before .before .before .before .before .before .before .args in roomy (a .server) (a .time) (a .out .now) _ (c .before .before .before .before .before .before .check .ensures) (c .before .before .before .before .enum-told .given .1)

@@ -1,12 +1,12 @@
--- `server::receiving::message` meets its contract: the checks, then the session hears it. Assumes nothing.
+-- `server::delivery::message` meets its contract: the checks, then the session hears it. Assumes nothing.
 use mathlib.Core.Bool.{true, false}
 use borrow.Author.Needs.{needs}
 use Rattle.service.specs.Call.{receives}
 use Rattle.server.specs.Memory.{memoryOf}
 use Rattle.server.proofs.Outcomes.{gives-refused}
 use Rattle.server.proofs.Delivered.{ready-checked, delivered-message}
-use Rattle.server.proofs.receiving.message.Statement.{statement}
-use Rattle.server.proofs.receiving.message.Tie as tie
+use Rattle.server.proofs.delivery.message.Statement.{statement}
+use Rattle.server.proofs.delivery.message.Tie as tie
 
 deliver-requires : tie.Need-deliver-requires
 deliver-requires c κs =
