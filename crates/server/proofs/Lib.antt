@@ -5,3 +5,5 @@ pub mod Refusals
 pub mod Ticks
 pub mod Starts
 pub mod Outcomes
+pub mod Delivered
+pub mod Pushed

@@ -14,7 +14,7 @@ use Rattle.service.specs.Checks.{isFree}
 use Rattle.service.specs.Call.{withSlots}
 use Rattle.server.specs.declared.state.Session.{Session}
 use Rattle.server.specs.declared.state.Server.{Server}
-use Rattle.server.specs.Memory.{Memory, areaAt, slotOf, stateOf}
+use Rattle.server.specs.Memory.{Memory, areaAt, putArea, slotOf, stateOf}
 use Rattle.server.specs.Numbers.{vacancy, newcomer, sessionAt, putSession, atTime}
 
 -- ---- a session by its number
@@ -71,13 +71,27 @@ slot-dead x a h = rw h
 
 -- ---- the state after the numbers change
 
--- A session is replaced at a time.
+-- A session, and its area, are replaced at a time.
+pub state-placed : (t i : ℕ) (x : Session) (s : Server) (m : Memory) (a : List ℕ)
+    → stateOf (atTime t (putSession i x s)) (putArea i a m) ≡ withSlots t (set (stateOf s m .slots) i (slotOf x a)) (stateOf s m)
+unfolding stateOf putSession putArea atTime
+state-placed t zero x s m a = refl
+state-placed t (suc zero) x s m a = refl
+state-placed t (suc (suc zero)) x s m a = refl
+state-placed t (suc (suc (suc zero))) x s m a = refl
+state-placed t (suc (suc (suc (suc i)))) x s m a = refl
+
+area-same : (i : ℕ) (m : Memory) → putArea i (areaAt i m) m ≡ m
+unfolding putArea
+area-same zero m = refl
+area-same (suc zero) m = refl
+area-same (suc (suc zero)) m = refl
+area-same (suc (suc (suc zero))) m = refl
+area-same (suc (suc (suc (suc i)))) m = refl
+
 pub state-put : (t i : ℕ) (x : Session) (s : Server) (m : Memory)
     → stateOf (atTime t (putSession i x s)) m
     ≡ withSlots t (set (stateOf s m .slots) i (slotOf x (areaAt i m))) (stateOf s m)
-unfolding stateOf putSession atTime
-state-put t zero x s m = refl
-state-put t (suc zero) x s m = refl
-state-put t (suc (suc zero)) x s m = refl
-state-put t (suc (suc (suc zero))) x s m = refl
-state-put t (suc (suc (suc (suc i)))) x s m = refl
+state-put t i x s m =
+    ap (λ (k : Memory). stateOf (atTime t (putSession i x s)) k) (sym (area-same i m))
+    ∙ state-placed t i x s m (areaAt i m)

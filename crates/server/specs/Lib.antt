@@ -4,3 +4,5 @@ pub mod Numbers
 pub mod Checks
 pub mod Answers
 pub mod Starting
+pub mod Delivery
+pub mod Pushing

@@ -31,6 +31,21 @@ withZone z m =
 abbrev pub areaAt : ℕ → Memory → List ℕ
 areaAt i m = getD (m .s0 ∷ m .s1 ∷ m .s2 ∷ m .s3 ∷ []) i []
 
+-- Another area for a session; past the last one nothing changes.
+abbrev pub withAreas : List ℕ → List ℕ → List ℕ → List ℕ → Memory → Memory
+withAreas a b c d m = record { zone = m .zone; first = m .first; second = m .second; s0 = a; s1 = b; s2 = c; s3 = d }
+
+abbrev pub memoryOf : List ℕ → List ℕ → List ℕ → List ℕ → List ℕ → List ℕ → List ℕ → Memory
+memoryOf zone first second a b c d =
+    record { zone = zone; first = first; second = second; s0 = a; s1 = b; s2 = c; s3 = d }
+
+unfoldable pub putArea : ℕ → List ℕ → Memory → Memory
+putArea zero a m = withAreas a (m .s1) (m .s2) (m .s3) m
+putArea (suc zero) a m = withAreas (m .s0) a (m .s2) (m .s3) m
+putArea (suc (suc zero)) a m = withAreas (m .s0) (m .s1) a (m .s3) m
+putArea (suc (suc (suc zero))) a m = withAreas (m .s0) (m .s1) (m .s2) a m
+putArea (suc (suc (suc (suc i)))) a m = m
+
 -- What a session's numbers and area hold. Those of a session that is not live are not looked at.
 abbrev pub sessionOf : Session → List ℕ → Service.Session
 sessionOf s area = record { subscriptions = subscriptionsOf (s .count) area; clocks = s .clocks }

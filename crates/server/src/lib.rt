@@ -2,7 +2,9 @@
 mod answer;
 mod calls;
 mod checks;
+mod delivery;
 mod places;
+mod pushing;
 mod starting;
 mod state;
 mod ticking;
@@ -14,6 +16,8 @@ pub use answer::Outcome;
 pub use calls::close;
 pub use calls::open;
 pub use calls::tick;
+pub use delivery::message;
+pub use pushing::batch;
 pub use starting::Started;
 pub use starting::start;
 pub use state::Server;

@@ -1,0 +1,8 @@
+// Change notifications in octets: the PUSH for a session from an old and a new store, and the first PUSH of a subscription.
+mod choice;
+mod marks;
+mod message;
+mod removal;
+
+pub use message::write_first;
+pub use message::write_push;

@@ -1,0 +1,11 @@
+-- Laws of the lines' definitions: numbers and octets read back, fields parted and joined, and how the loops go.
+pub mod Bench
+pub mod Bytes
+pub mod Digits
+pub mod Lines
+pub mod Numbers
+pub mod Parting
+pub mod ReadBack
+pub mod Tabless
+pub mod Verbs
+pub mod Writing

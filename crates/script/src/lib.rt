@@ -1,0 +1,12 @@
+// The lines of the replay program (01, "The replay program"): reading one, and writing one.
+mod number;
+mod reader;
+mod verb;
+mod writer;
+
+pub use reader::Bytes;
+pub use reader::Command;
+pub use reader::read_line;
+pub use verb::Verb;
+pub use writer::SessionField;
+pub use writer::write_line;

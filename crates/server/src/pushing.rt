@@ -1,0 +1,210 @@
+// Batch: record edits, and the PUSH for each session whose view they change.
+use crate::answer::Answer;
+use crate::answer::Counts;
+use crate::answer::Outcome;
+use crate::answer::refused;
+use crate::checks::Brought;
+use crate::checks::Checked;
+use crate::checks::Given;
+use crate::checks::check;
+use crate::starting::Name;
+use crate::state::Server;
+use crate::state::Session;
+use notify::write_push;
+use service::Refusal;
+use table::part;
+use zone::BatchResult;
+ghost use Prim.Native.Nat.{_≤_};
+ghost use mathlib.Core.Path.{_≡_};
+ghost use lib.ListN.{length};
+ghost use Rattle.zone.specs.Table.{recordsOf};
+ghost use Rattle.service.specs.Call.{pushTo, outcome, edits};
+ghost use Rattle.service.specs.Checks.{leastOutput};
+ghost use Rattle.server.specs.Memory.{slotOf, memoryOf, stateOf};
+ghost use Rattle.server.specs.Answers.{answerOf, countsOf, Gives};
+ghost use Rattle.server.specs.Pushing.{Tells, TellsAll, toldOf, committedOf, Announces, slotsAt, Edits};
+ghost use mathlib.Core.Bool.{true};
+ghost use lib.Pow.{areBytes};
+
+// 01: "session s writes from s x 16,384".
+const OUTPUT: usize = 16384;
+
+// The PUSH of one session, from a place of the output on; how many bytes it has.
+fn tell(
+    x: Session,
+    old: &zone::Area,
+    olds: usize,
+    new: &zone::Area,
+    news: usize,
+    subs: &session::Area,
+    out: &mut [u8],
+    at: usize,
+) -> usize
+    requires { ⌜ at ≤ length (now out) ⌝ }
+    ensures { λ r. ⌜ Tells (pushTo (recordsOf olds (now (old .entry))) (recordsOf news (now (new .entry))) (slotOf x (now (subs .entry)))) at (now (out .entry)) (now (out .exit)) r ⌝ }
+{
+    if x.live {
+        return write_push(old, olds, new, news, subs, x.count, &mut out[at..]);
+    }
+    0
+}
+
+// Those of the first two sessions, and of the last two.
+fn tell_all(
+    server: Server,
+    old: &zone::Area,
+    new: &zone::Area,
+    news: usize,
+    s0: &session::Area,
+    s1: &session::Area,
+    s2: &session::Area,
+    s3: &session::Area,
+    out: &mut [u8],
+) -> Counts
+    requires { ⌜ leastOutput ≤ length (now out) ⌝ }
+    ensures { λ r. ⌜ TellsAll (recordsOf (server .records) (now (old .entry))) (recordsOf news (now (new .entry))) (slotsAt server (now (s0 .entry)) (now (s1 .entry)) (now (s2 .entry)) (now (s3 .entry))) (now (out .entry)) (now (out .exit)) r ⌝ }
+{
+    let x0 = server.s0;
+    let x1 = server.s1;
+    let x2 = server.s2;
+    let x3 = server.s3;
+    Counts {
+        c0: tell(x0, old, server.records, new, news, s0, out, 0),
+        c1: tell(x1, old, server.records, new, news, s1, out, OUTPUT),
+        c2: tell(x2, old, server.records, new, news, s2, out, 2 * OUTPUT),
+        c3: tell(x3, old, server.records, new, news, s3, out, 3 * OUTPUT),
+    }
+}
+
+// 1 where nothing is written.
+fn told(counts: Counts) -> Answer
+    ensures { λ r. ⌜ answerOf r ≡ toldOf (countsOf counts) ⌝ }
+{
+    if counts.c0 != 0 {
+        return Answer::Sent(counts);
+    }
+    if counts.c1 != 0 {
+        return Answer::Sent(counts);
+    }
+    if counts.c2 != 0 {
+        return Answer::Sent(counts);
+    }
+    if counts.c3 != 0 {
+        return Answer::Sent(counts);
+    }
+    Answer::Done
+}
+
+// The other area holds the store, with so many records.
+fn committed(mut server: Server, t: u64, records: usize) -> Server
+    ensures { λ r. ⌜ r ≡ committedOf t records server ⌝ }
+{
+    let other = !server.second;
+    server.latest = t;
+    server.records = records;
+    server.second = other;
+    server
+}
+
+fn announced(
+    server: Server,
+    t: u64,
+    old: &zone::Area,
+    new: &zone::Area,
+    news: usize,
+    s0: &session::Area,
+    s1: &session::Area,
+    s2: &session::Area,
+    s3: &session::Area,
+    out: &mut [u8],
+) -> Outcome
+    requires { ⌜ leastOutput ≤ length (now out) ⌝ }
+    ensures { λ r. ⌜ Announces server t news (recordsOf (server .records) (now (old .entry))) (recordsOf news (now (new .entry))) (slotsAt server (now (s0 .entry)) (now (s1 .entry)) (now (s2 .entry)) (now (s3 .entry))) (now (out .entry)) (now (out .exit)) r ⌝ }
+{
+    let counts = tell_all(server, old, new, news, s0, s1, s2, s3, out);
+    Outcome {
+        server: committed(server, t, news),
+        answer: told(counts),
+    }
+}
+
+// From the area that holds the store into the other one, which then holds it. A refused batch leaves the first as it was.
+fn edit(
+    server: Server,
+    zone: &Name,
+    old: &zone::Area,
+    new: &mut zone::Area,
+    s0: &session::Area,
+    s1: &session::Area,
+    s2: &session::Area,
+    s3: &session::Area,
+    t: u64,
+    bytes: &[u8],
+    out: &mut [u8],
+) -> Outcome
+    requires { ⌜ leastOutput ≤ length (now out) ⌝ }
+    ensures { λ r. ⌜ Edits server t (now (zone .entry)) (now (old .entry)) (now (new .exit)) (now (s0 .entry)) (now (s1 .entry)) (now (s2 .entry)) (now (s3 .entry)) (now (bytes .entry)) (now (out .entry)) (now (out .exit)) r ⌝ }
+{
+    let name = part(zone, 0, server.zone);
+    match zone::batch(name, bytes, old, server.records, new) {
+        BatchResult::Faulty(f) => refused(server, Refusal::Batch(f)),
+        BatchResult::Stored(n) => announced(server, t, old, new, n, s0, s1, s2, s3, out),
+    }
+}
+
+pub fn batch(
+    server: Server,
+    zone: &Name,
+    first: &mut zone::Area,
+    second: &mut zone::Area,
+    s0: &session::Area,
+    s1: &session::Area,
+    s2: &session::Area,
+    s3: &session::Area,
+    time: u64,
+    bytes: &[u8],
+    out: &mut [u8],
+) -> Outcome
+    ensures { λ r. ⌜ ((small : areBytes (now (bytes .entry)) ≡ true) → Gives server r (memoryOf (now (zone .entry)) (now (first .exit)) (now (second .exit)) (now (s0 .entry)) (now (s1 .entry)) (now (s2 .entry)) (now (s3 .entry))) (now (out .exit)) (outcome (stateOf server (memoryOf (now (zone .entry)) (now (first .entry)) (now (second .entry)) (now (s0 .entry)) (now (s1 .entry)) (now (s2 .entry)) (now (s3 .entry)))) (edits time (record { list = now (bytes .entry); small = small }) (now (out .entry))))) ⌝ }
+{
+    let b = Brought {
+        output: Given::Is(out.len() as u64),
+        time,
+        session: Given::Absent,
+        message: Given::Absent,
+    };
+    match check(server, b) {
+        Checked::Refuse(why) => refused(server, why),
+        Checked::Pass => {
+            if server.second {
+                edit(
+                    server,
+                    zone,
+                    second,
+                    first,
+                    s0,
+                    s1,
+                    s2,
+                    s3,
+                    time,
+                    bytes,
+                    out,
+                )
+            } else {
+                edit(
+                    server,
+                    zone,
+                    first,
+                    second,
+                    s0,
+                    s1,
+                    s2,
+                    s3,
+                    time,
+                    bytes,
+                    out,
+                )
+            }
+        }
+    }
+}
