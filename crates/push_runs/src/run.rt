@@ -9,8 +9,8 @@ use script::Decoded;
 use script::read_bytes;
 use script::tab;
 use table::part;
+use wire::same_octets;
 use zone::BatchResult;
-use zone::same_octets;
 
 // The output of one session.
 const OUTPUT: usize = 16384;
