@@ -12,3 +12,6 @@ mkdir -p target
 run tests/reference/target/release/reference names --seed 7 --in target/names.in --out target/names.out
 run cmp target/names.in crates/wire_names/stdin
 run cmp target/names.out crates/wire_names/stdout
+run tests/reference/target/release/reference pushes --seed 7 --in target/pushes.in --out target/pushes.out
+run cmp target/pushes.in crates/push_runs/stdin
+run cmp target/pushes.out crates/push_runs/stdout

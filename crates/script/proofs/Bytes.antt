@@ -1,5 +1,5 @@
 -- Octets as hexadecimal digits: how the loops go, and that octets written are read back.
-use Prim.Native.Nat.{ℕ, suc, _+_, _*_, _/_, _%_, _≤_, _<_}
+use Prim.Native.Nat.{ℕ, suc, _+_, _*_, _-_, _/_, _%_, _≤_, _<_}
 use mathlib.Core.Path.{_≡_, refl, sym, ap, ap₂, _∙_}
 use mathlib.Core.Bool.{Bool, true, false, cond, _&&_}
 use mathlib.Core.List.{List, [], _∷_, _++_, append-nil, append-assoc}
@@ -10,10 +10,11 @@ use lib.ListN.{length, take, drop, getD, set, length-set, drop-of-length-le}
 use lib.Seq.{drop-cons, take-suc-set}
 use lib.Dec.{ltb}
 use lib.Pow.{areBytes}
-use borrow.Author.Tests.{lt-ltb, le-ltb, ltb-true}
+use borrow.Author.Tests.{lt-ltb, le-ltb, ltb-true, le-leb, lt-leb}
 use Rattle.script.specs.Digit.{digitValue, digitOctet}
-use Rattle.script.specs.Hex.{behind, hexBytes, hexOctets}
+use Rattle.script.specs.Hex.{behind, hexBytes, hexBytesIn, hexOctets}
 use Rattle.script.specs.Code.{decodedBytes}
+use Rattle.script.specs.declared.reader.Decoded.{Decoded}
 use Rattle.script.specs.declared.reader.Decoded.the-variants.{Bytes, NoBytes}
 use Rattle.script.proofs.Digits.{digit-read}
 
@@ -82,6 +83,16 @@ module _ (s first o : List ℕ) (i : ℕ) (r : Decoding s first o i) where
           long = rw length-set (r .long);
           low = omega arith;
         }
+
+-- Memory that has no room for the octets, and memory that has.
+module _ (s first o : List ℕ) where
+  pub bytes-many : length first < length s - length s / 2 → decodedBytes NoBytes o ≡ hexBytesIn (length first) s
+  unfolding hexBytesIn
+  bytes-many h = rw (lt-leb (length s) (2 * length first) (omega arith))
+
+  pub bytes-few : (r : Decoded) → length s - length s / 2 ≤ length first → decodedBytes r o ≡ hexBytes s → decodedBytes r o ≡ hexBytesIn (length first) s
+  unfolding hexBytesIn
+  bytes-few r h e = rw (le-leb (length s) (2 * length first) (omega arith)) e
 
 -- ---- writing
 

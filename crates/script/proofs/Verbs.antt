@@ -1,61 +1,12 @@
--- Verbs: two words side by side, and which verb a word is.
-use Prim.Native.Nat.{ℕ, suc, _+_, _≤_, _<_}
-use mathlib.Core.Path.{_≡_, refl, sym, ap, ap₂, _∙_}
-use mathlib.Core.Bool.{Bool, true, false, _&&_}
-use mathlib.Core.List.{List, [], _∷_}
-use native.Mathlib.Numerals.{add-one}
-use native.Mathlib.Omega.{arith}
-use lib.ListN.{length, drop, getD, drop-of-length-le}
-use lib.Seq.{drop-cons}
-use lib.Dec.{eqb}
-use borrow.Author.Tests.{eq-eqb, ne-eqb}
+-- Verbs: which one a word is.
+use Prim.Native.Nat.{ℕ}
+use mathlib.Core.Path.{_≡_, refl}
+use mathlib.Core.Bool.{Bool, true, false}
+use mathlib.Core.List.{List}
 use Rattle.wire.specs.Name.{sameOctets}
 use Rattle.script.specs.Verb.{verbText, verbOf}
 use Rattle.script.specs.declared.verb.Verb.{Verb}
 use Rattle.script.specs.declared.verb.Verb.the-variants.{Open, Close, Message, Batch, Tick, Unknown}
-
--- ---- two words
-
-pub record Same (a b : List ℕ) (i : ℕ) : Type 0 where
-  pub long : length a ≡ length b
-  pub rest : sameOctets a b ≡ sameOctets (drop i a) (drop i b)
-
-pub same-none : (a b : List ℕ) → length a ≡ length b → Same a b 0
-same-none a b h = record { long = h; rest = refl }
-
-pub other-length : (a b : List ℕ) → (length a ≡ length b → ⊥) → false ≡ sameOctets a b
-unfolding sameOctets
-other-length [] [] h = absurd (h refl)
-other-length [] (y ∷ b) h = refl
-other-length (x ∷ a) [] h = refl
-other-length (x ∷ a) (y ∷ b) h = by-test (eqb x y) (other-length a b (λ e. h (ap suc e)))
-  where
-    by-test : (t : Bool) → false ≡ sameOctets a b → false ≡ t && sameOctets a b
-    by-test true ih = ih
-    by-test false ih = refl
-
-module _ (a b : List ℕ) (i : ℕ) (r : Same a b i) where
-  pub same-end : length a ≤ i → true ≡ sameOctets a b
-  unfolding sameOctets
-  same-end h =
-      let k : length b ≤ i = omega (arith, r .long) in
-      sym (r .rest ∙ ap₂ sameOctets (drop-of-length-le a h) (drop-of-length-le b k))
-
-  next : i < length a → sameOctets a b ≡ eqb (getD a i 0) (getD b i 0) && sameOctets (drop (suc i) a) (drop (suc i) b)
-  unfolding sameOctets
-  next h =
-      let k : i < length b = omega (arith, r .long) in
-      r .rest ∙ ap₂ sameOctets (drop-cons a i 0 h) (drop-cons b i 0 k)
-
-  pub same-turn : i < length a → getD a i 0 ≡ getD b i 0 → Same a b (i + 1)
-  same-turn h e =
-      record {
-        long = r .long;
-        rest = rw (next h, eq-eqb (getD a i 0) (getD b i 0) e, add-one i);
-      }
-
-  pub other-octet : i < length a → (getD a i 0 ≡ getD b i 0 → ⊥) → false ≡ sameOctets a b
-  other-octet h e = rw (next h, ne-eqb (getD a i 0) (getD b i 0) e)
 
 -- ---- which verb: the words are tried in turn
 

@@ -3,7 +3,8 @@ use Prim.Native.Nat.{ℕ, _+_, _*_, _/_, _%_}
 use mathlib.Core.Bool.{cond, _&&_}
 use mathlib.Core.List.{List, [], _∷_, _++_}
 use mathlib.Core.Option.{Option, none, some}
-use lib.Dec.{ltb}
+use lib.ListN.{length}
+use lib.Dec.{leb, ltb}
 use Rattle.script.specs.Digit.{digitValue, digitOctet}
 
 -- Octets, and those before them, if there are any to speak of.
@@ -17,6 +18,10 @@ hexBytes [] = some []
 hexBytes (a ∷ []) = none
 hexBytes (a ∷ b ∷ l) =
     cond (ltb (digitValue a) 16 && ltb (digitValue b) 16) (behind ((digitValue a * 16 + digitValue b) ∷ []) (hexBytes l)) none
+
+-- The same where there is room for so many octets; none where the digits are more.
+unfoldable pub hexBytesIn : ℕ → List ℕ → Option (List ℕ)
+hexBytesIn room s = cond (leb (length s) (2 * room)) (hexBytes s) none
 
 -- The digits of octets.
 unfoldable pub hexOctets : List ℕ → List ℕ

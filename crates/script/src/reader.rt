@@ -7,7 +7,7 @@ use crate::verb::verb_of;
 ghost use Prim.Native.Nat.{_*_, _≤_};
 ghost use mathlib.Core.Path.{_≡_};
 ghost use lib.ListN.{length};
-ghost use Rattle.script.specs.Hex.{hexBytes};
+ghost use Rattle.script.specs.Hex.{hexBytes, hexBytesIn};
 ghost use Rattle.script.specs.Code.{decodedBytes, commandLine, Is};
 ghost use Rattle.script.specs.Fields.{fields, FirstTab};
 ghost use Rattle.script.specs.Line.{maxLine, lineOf, timed, spoken};
@@ -47,6 +47,16 @@ fn decode(s: &[u8], bytes: &mut [u8]) -> Decoded
     Decoded::Bytes(n)
 }
 
+// The same for memory of any length: octets that it has no room for are not read.
+pub fn read_bytes(s: &[u8], bytes: &mut [u8]) -> Decoded
+    ensures { λ r. ⌜ decodedBytes r (now (bytes .exit)) ≡ hexBytesIn (length (now (bytes .entry))) (now (s .entry)) ⌝ }
+{
+    if bytes.len() < s.len() - s.len() / 2 {
+        return Decoded::NoBytes;
+    }
+    decode(s, bytes)
+}
+
 // Times and sessions are the line's own numbers; of a message or a batch, so many octets stand at the front of the memory
 // that was lent.
 pub enum Command {
@@ -61,7 +71,7 @@ pub enum Command {
 const MAX_LINE: usize = 32_768;
 
 // Where the first tab stands, or the length where there is none.
-fn tab(s: &[u8]) -> usize
+pub fn tab(s: &[u8]) -> usize
     ensures { λ r. ⌜ FirstTab (now (s .entry)) r ⌝ }
 {
     let mut i = 0;

@@ -78,7 +78,7 @@ fn hex(out: &mut [u8], bytes: &[u8])
     }
 }
 
-fn put_hex(out: &mut [u8], at: usize, bytes: &[u8]) -> usize
+pub fn put_hex(out: &mut [u8], at: usize, bytes: &[u8]) -> usize
     ensures { λ r. ⌜ Written (now (out .entry)) at (hexOctets (now (bytes .entry))) (now (out .exit)) r ⌝ }
 {
     if out.len() <= at {

@@ -14,7 +14,7 @@ use Rattle.wire.specs.Name.{maxLabel, maxName, after, labels, nameLength
 use Rattle.wire.specs.Reading.{reading, nameFront, nameAt}
 use Rattle.wire.specs.declared.name.NameReading.{NameReading}
 use Rattle.wire.specs.declared.name.NameReading.the-variants.{Name, NoName}
-use Rattle.wire.proofs.Names.{after-zero, after-after, labels-drop, sameName-length, endsIn-drop}
+use Rattle.wire.proofs.Names.{after-zero, after-after, labels-drop, sameOctets-true, sameName-length, endsIn-drop}
 use Rattle.wire.proofs.Writes.{drop-slice}
 
 true-false : (t : Bool) → (t ≡ true → ⊥) → false ≡ t
@@ -76,6 +76,41 @@ nameAt-past s at h = sym (ap (λ (l : List ℕ). reading (labels 0 (take maxName
 pub nameAt-slice : (s : List ℕ) (at : ℕ) (r : NameReading) → r ≡ nameFront (take (length s - at) (drop at s)) → r ≡ nameAt s at
 unfolding nameAt
 nameAt-slice s at r e = e ∙ ap nameFront (drop-slice s at)
+
+-- ---- octets side by side
+
+pub record Same (a b : List ℕ) (i : ℕ) : Type 0 where
+  pub long : length a ≡ length b
+  pub rest : sameOctets a b ≡ sameOctets (drop i a) (drop i b)
+
+pub same-none : (a b : List ℕ) → length a ≡ length b → Same a b 0
+same-none a b h = record { long = h; rest = refl }
+
+pub other-length : (a b : List ℕ) → (length a ≡ length b → ⊥) → false ≡ sameOctets a b
+other-length a b h = true-false (sameOctets a b) (λ e. h (ap length (sameOctets-true a b e)))
+
+module _ (a b : List ℕ) (i : ℕ) (r : Same a b i) where
+  pub same-end : length a ≤ i → true ≡ sameOctets a b
+  unfolding sameOctets
+  same-end h =
+      let k : length b ≤ i = omega (arith, r .long) in
+      sym (r .rest ∙ ap₂ sameOctets (drop-of-length-le a h) (drop-of-length-le b k))
+
+  next-octet : i < length a → sameOctets a b ≡ eqb (getD a i 0) (getD b i 0) && sameOctets (drop (suc i) a) (drop (suc i) b)
+  unfolding sameOctets
+  next-octet h =
+      let k : i < length b = omega (arith, r .long) in
+      r .rest ∙ ap₂ sameOctets (drop-cons a i 0 h) (drop-cons b i 0 k)
+
+  pub same-turn : i < length a → getD a i 0 ≡ getD b i 0 → Same a b (i + 1)
+  same-turn h e =
+      record {
+        long = r .long;
+        rest = rw (next-octet h, eq-eqb (getD a i 0) (getD b i 0) e, add-one i);
+      }
+
+  pub other-octet : i < length a → (getD a i 0 ≡ getD b i 0 → ⊥) → false ≡ sameOctets a b
+  other-octet h e = rw (next-octet h, ne-eqb (getD a i 0) (getD b i 0) e)
 
 -- ---- two names side by side
 

@@ -8,6 +8,7 @@ pub use field::field32;
 pub use name::NameReading;
 pub use name::name_at;
 pub use name::same_name;
+pub use name::same_octets;
 pub use name::within;
 pub use write::write_octets;
 pub use write::write16;

@@ -1,6 +1,6 @@
 // Names: reading one, comparing two, and one being at or below another.
 ghost use mathlib.Core.Path.{_≡_};
-ghost use Rattle.wire.specs.Name.{lower, sameName, within as isWithin};
+ghost use Rattle.wire.specs.Name.{lower, sameOctets, sameName, within as isWithin};
 ghost use Rattle.wire.specs.Reading.{nameAt, nameFront};
 
 // What stands at a place: a name of so many octets, the zero octet at its end counted; or no name.
@@ -50,6 +50,22 @@ fn lower(b: u8) -> u8
 }
 
 // Octets of unlike length are told apart without looking at them.
+pub fn same_octets(a: &[u8], b: &[u8]) -> bool
+    ensures { λ r. ⌜ r ≡ sameOctets (now (a .entry)) (now (b .entry)) ⌝ }
+{
+    if a.len() != b.len() {
+        return false;
+    }
+    let mut i = 0;
+    while i < a.len() {
+        if a[i] != b[i] {
+            return false;
+        }
+        i += 1;
+    }
+    true
+}
+
 pub fn same_name(a: &[u8], b: &[u8]) -> bool
     ensures { λ r. ⌜ r ≡ sameName (now (a .entry)) (now (b .entry)) ⌝ }
 {

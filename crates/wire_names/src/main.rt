@@ -4,12 +4,11 @@
 //   same HEX HEX             yes or no, or - where one is no whole name
 //   within ZONEHEX NAMEHEX   likewise
 // A line that is none of these is answered by ?.
-mod fields;
 mod question;
 
-use fields::in_front;
 use question::ask;
 use question::unreadable;
+use table::part;
 
 // A line that is being read has this many octets so far, and whether the input goes on.
 struct Progress {
@@ -22,7 +21,7 @@ fn answer(line: &[u8; 2048], n: usize) {
         unreadable();
         return;
     }
-    ask(in_front(line, n));
+    ask(part(line, 0, n));
 }
 
 // One octet of input: the line's end answers it. A line's octets beyond the buffer are counted and not kept.

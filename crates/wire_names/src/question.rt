@@ -1,11 +1,14 @@
 // The three questions and their answers.
-use crate::fields::behind;
-use crate::fields::decimal;
-use crate::fields::decode;
-use crate::fields::decoded;
-use crate::fields::equal;
-use crate::fields::in_front;
-use crate::fields::tab;
+use script::Decoded;
+use script::Number;
+use script::read_bytes;
+use script::read_number;
+use script::tab;
+use table::part;
+use wire::same_octets;
+
+// Room for a name and more: longer fields are unreadable.
+type Octets = [u8; 300];
 
 pub fn unreadable() {
     io::write_all(1, b"?\n");
@@ -51,56 +54,58 @@ fn within(zone: &[u8], name: &[u8]) {
 }
 
 fn ask_read(place: &[u8], hex: &[u8]) {
-    let at = decimal(place);
-    let mut space = [0u8; 320];
-    let n = decode(hex, &mut space);
-    if 320 < n {
+    let mut space: Octets = [0u8; 300];
+    let Decoded::Bytes(n) = read_bytes(hex, &mut space) else {
         unreadable();
-    } else if 1000000000 <= at {
+        return;
+    };
+    let Number::Value(at) = read_number(place) else {
         unreadable();
-    } else {
-        read(decoded(&space, n), at);
-    }
+        return;
+    };
+    read(part(&space, 0, n), at as usize);
 }
 
 fn ask_two(about: u8, first: &[u8], second: &[u8]) {
-    let mut left = [0u8; 320];
-    let n = decode(first, &mut left);
-    let mut right = [0u8; 320];
-    let m = decode(second, &mut right);
-    if 320 < n {
+    let mut left: Octets = [0u8; 300];
+    let Decoded::Bytes(n) = read_bytes(first, &mut left) else {
         unreadable();
-    } else if 320 < m {
+        return;
+    };
+    let mut right: Octets = [0u8; 300];
+    let Decoded::Bytes(m) = read_bytes(second, &mut right) else {
         unreadable();
-    } else if about == b's' {
-        same(decoded(&left, n), decoded(&right, m));
+        return;
+    };
+    if about == b's' {
+        same(part(&left, 0, n), part(&right, 0, m));
     } else {
-        within(decoded(&left, n), decoded(&right, m));
+        within(part(&left, 0, n), part(&right, 0, m));
     }
 }
 
 pub fn ask(line: &[u8]) {
     let v = tab(line);
-    let verb = in_front(line, v);
-    if v == line.len() {
+    if line.len() <= v {
         unreadable();
         return;
     }
-    let rest = behind(line, v + 1);
+    let rest = part(line, v + 1, line.len());
     let f = tab(rest);
-    if f == rest.len() {
+    if rest.len() <= f {
         unreadable();
         return;
     }
-    put(verb, in_front(rest, f), behind(rest, f + 1));
+    let second = part(rest, f + 1, rest.len());
+    put(part(line, 0, v), part(rest, 0, f), second);
 }
 
 fn put(verb: &[u8], first: &[u8], second: &[u8]) {
-    if equal(verb, b"read") {
+    if same_octets(verb, b"read") {
         ask_read(first, second);
-    } else if equal(verb, b"same") {
+    } else if same_octets(verb, b"same") {
         ask_two(b's', first, second);
-    } else if equal(verb, b"within") {
+    } else if same_octets(verb, b"within") {
         ask_two(b'w', first, second);
     } else {
         unreadable();

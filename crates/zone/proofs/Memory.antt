@@ -1,6 +1,6 @@
 -- Laws of the store in lent memory: its blocks, keys, the search for a key.
 use Prim.Native.Nat.{ℕ, suc, min, _+_, _*_, _≤_, _<_}
-use mathlib.Core.Path.{_≡_, refl, sym, ap, ap₂, _∙_}
+use mathlib.Core.Path.{_≡_, refl, sym, ap, _∙_}
 use mathlib.Core.Bool.{Bool, true, false, cond, _&&_}
 use mathlib.Core.List.{List, [], _∷_, map}
 use mathlib.Core.Option.{some}
@@ -10,11 +10,11 @@ use native.Mathlib.Omega.{arith}
 use lib.ListN.{length, take, drop, getD, length-map, List·getD-map, drop-of-length-le}
 use lib.Seq.{drop-cons}
 use lib.Dec.{eqb}
-use borrow.Author.Tests.{eq-eqb, ne-eqb}
+use borrow.Author.Tests.{eq-eqb}
 use Rattle.wire.specs.Field.{field}
 use Rattle.wire.specs.Part.{part}
 use Rattle.wire.specs.Name.{after, lowered, sameOctets, sameName}
-use Rattle.wire.proofs.Names.{after-zero, after-after, sameOctets-true, sameOctets-of}
+use Rattle.wire.proofs.Names.{after-zero, after-after, sameOctets-of}
 use Rattle.table.specs.Blocks.{blocks}
 use Rattle.table.proofs.Blocks.{length-blocks, blocks-at, take-blocks, take-map}
 use Rattle.zone.specs.Record.{Record, Key, keyOf, sameKey}
@@ -49,42 +49,6 @@ module _ (b : List ℕ) where
   pub rdata-in : (t : List ℕ) → t ≡ take (field 1 (drop 1 b)) (drop 265 b) → t ≡ recOf b .rdata
   unfolding recOf
   rdata-in t e = e
-
--- ---- octets side by side
-
-pub record Same (a b : List ℕ) (i : ℕ) : Type 0 where
-  pub long : length a ≡ length b
-  pub rest : sameOctets a b ≡ sameOctets (drop i a) (drop i b)
-
-pub same-none : (a b : List ℕ) → length a ≡ length b → Same a b 0
-same-none a b h = record { long = h; rest = refl }
-
-pub other-length : (a b : List ℕ) → (length a ≡ length b → ⊥) → false ≡ sameOctets a b
-other-length a b h = sym (never (sameOctets a b) (λ e. h (ap length (sameOctets-true a b e))))
-
-module _ (a b : List ℕ) (i : ℕ) (r : Same a b i) where
-  pub same-end : length a ≤ i → true ≡ sameOctets a b
-  unfolding sameOctets
-  same-end h =
-      let k : length b ≤ i = omega (arith, r .long) in
-      sym (r .rest ∙ ap₂ sameOctets (drop-of-length-le a h) (drop-of-length-le b k))
-
-  next : i < length a → sameOctets a b ≡ eqb (getD a i 0) (getD b i 0) && sameOctets (drop (suc i) a) (drop (suc i) b)
-  unfolding sameOctets
-  next h =
-      let k : i < length b = omega (arith, r .long) in
-      r .rest ∙ ap₂ sameOctets (drop-cons a i 0 h) (drop-cons b i 0 k)
-
-  pub same-turn : i < length a → getD a i 0 ≡ getD b i 0 → Same a b (i + 1)
-  same-turn h e = record {
-    long = r .long;
-    rest = next h ∙ ap (λ (t : Bool). t && sameOctets (drop (suc i) a) (drop (suc i) b)) (eq-eqb (getD a i 0) (getD b i 0) e)
-        ∙ ap (λ (j : ℕ). sameOctets (drop j a) (drop j b)) (sym (add-one i));
-  }
-
-  pub other-octet : i < length a → (getD a i 0 ≡ getD b i 0 → ⊥) → false ≡ sameOctets a b
-  other-octet h e =
-      sym (next h ∙ ap (λ (t : Bool). t && sameOctets (drop (suc i) a) (drop (suc i) b)) (ne-eqb (getD a i 0) (getD b i 0) e))
 
 -- ---- a key, by its parts in turn
 

@@ -25,7 +25,6 @@ pub use records::owner;
 pub use records::rdata;
 pub use records::rrclass;
 pub use records::rrtype;
-pub use records::same_octets;
 pub use records::ttl;
 
 // Why a batch is refused (01, answers 16, 14, 15 and 17).

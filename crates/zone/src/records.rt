@@ -1,7 +1,6 @@
 // The store in lent memory: a count of records, and an area of blocks, each of which holds one record.
 ghost use Prim.Native.Nat.{min};
 ghost use mathlib.Core.Path.{_≡_};
-ghost use Rattle.wire.specs.Name.{sameOctets};
 ghost use Rattle.zone.specs.Record.{keyOf, sameKey};
 ghost use Rattle.zone.specs.Batch.{maxRecords};
 ghost use Rattle.zone.specs.Table.{blockAt, recOf, keyFrom, recordsOf, indexOf, foundAt};
@@ -75,22 +74,6 @@ pub fn rdata(block: &[u8]) -> &[u8]
     table::text(block, RDATA_LENGTH, RDATA)
 }
 
-pub fn same_octets(a: &[u8], b: &[u8]) -> bool
-    ensures { λ r. ⌜ r ≡ sameOctets (now (a .entry)) (now (b .entry)) ⌝ }
-{
-    if a.len() != b.len() {
-        return false;
-    }
-    let mut i = 0;
-    while i < a.len() {
-        if a[i] != b[i] {
-            return false;
-        }
-        i += 1;
-    }
-    true
-}
-
 // Whether a block's record has a key. The numbers and the RDATA are looked at before the name.
 pub fn has_key(block: &[u8], name: &[u8], rrtype: u16, rrclass: u16, rdata: &[u8]) -> bool
     ensures { λ r. ⌜ r ≡ sameKey (keyOf (recOf (now (block .entry)))) (keyFrom (now (name .entry)) rrtype rrclass (now (rdata .entry))) ⌝ }
@@ -101,7 +84,7 @@ pub fn has_key(block: &[u8], name: &[u8], rrtype: u16, rrclass: u16, rdata: &[u8
     if self::rrclass(block) != rrclass {
         return false;
     }
-    if same_octets(self::rdata(block), rdata) {
+    if wire::same_octets(self::rdata(block), rdata) {
         return wire::same_name(owner(block), name);
     }
     false

@@ -1,10 +1,10 @@
--- `zone::records::same_octets` meets its contract. The loop's invariant: what is left is equal where the whole is. Assumes nothing.
+-- `wire::name::same_octets` meets its contract. The loop's invariant: what is left is equal where the whole is. Assumes nothing.
 use Prim.Native.Nat.{_-_}
 use native.Mathlib.Omega.{arith}
 use lib.ListN.{length}
-use Rattle.zone.proofs.Memory.{Same, same-none, same-end, same-turn, other-length, other-octet}
-use Rattle.zone.proofs.records.same_octets.Statement.{statement}
-use Rattle.zone.proofs.records.same_octets.Tie as tie
+use Rattle.wire.proofs.Loops.{Same, same-none, same-end, same-turn, other-length, other-octet}
+use Rattle.wire.proofs.name.same_octets.Statement.{statement}
+use Rattle.wire.proofs.name.same_octets.Tie as tie
 
 abbrev Inv-loop : tie.InvT-loop
 Inv-loop a b i₀ i = Same a b i
