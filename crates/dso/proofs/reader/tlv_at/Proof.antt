@@ -8,13 +8,13 @@ use Rattle.dso.proofs.reader.tlv_at.Statement.{statement}
 use Rattle.dso.proofs.reader.tlv_at.Tie as tie
 
 returns : tie.Need-returns
-returns c = ?
+returns c = sym (tlvAt-end _ _ (c .if1 .taken))
 
 sub-if2 : tie.Need-sub-if2
 sub-if2 c = search needs
 
 returns-2 : tie.Need-returns-2
-returns-2 c = ?
+returns-2 c = sym (tlvAt-cut _ _ (c .before .if1 .left) (omega arith))
 
 add-start : tie.Need-add-start
 add-start c = search needs
