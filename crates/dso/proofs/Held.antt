@@ -96,7 +96,7 @@ making τ g = record {
   body = seq (assign (place 3 []) (aggregate (copy (place 1 []) ∷ copy (place 2 []) ∷ []))) (seq (call g (copy (place 3 []) ∷ []) (place 0 [])) return);
 }
 
--- ---- what both walks share: the result of a call is landed in _0, and all locals are freed
+-- ---- the walks, where a machine value that R relates to a result has R's MIR type, τ
 module _ {M : Type 1} (𝓤 : URA M) (H : Heap 𝓤) (A : Atoms 𝓤) (W : Given 𝓤 H A) (R : RattleType) (f : List ℕ → ℕ → R .Denot) (τ : Ty) (typed : (r : R .Denot) (u : Val) → Is R r (u ∷ []) → Holds (hasTy τ u) × WT u) where
   -- ---- taken apart
   abbrev held-stays : Stays (heldly R .signature .params) (heldly R .kept)

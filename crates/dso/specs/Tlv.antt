@@ -8,7 +8,6 @@ use mathlib.Core.Option.{Option, none, some}
 use lib.ListN.{length, take, drop}
 use lib.Dec.{ltb}
 use Rattle.wire.specs.Field.{field}
-use Rattle.dso.specs.declared.judgment.Place.{Place}
 use Rattle.dso.specs.declared.reader.TlvPlace.{TlvPlace}
 use Rattle.dso.specs.declared.reader.TlvStep.{TlvStep}
 use Rattle.dso.specs.declared.reader.TlvStep.the-variants.{Whole, End, Cut}

@@ -4,7 +4,7 @@ use contract.Running.{givenOf, tables, tablesOf}
 use denote.Enum.Laws as EL
 use denote.Triple.Spec.{tripleOf}
 use denote.Triple.Table.{entered, cited}
-use Rattle.dso.proofs.Held.{Plain, Held, making-meets}
+use Rattle.dso.proofs.Held.{Held, making-meets}
 use Rattle.wire.specs.Reading.{nameAt}
 use Rattle.wire.proofs.name.NameReading as S
 use Rattle.wire.proofs.name.NameReading.Laws as S′

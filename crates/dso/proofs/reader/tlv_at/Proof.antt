@@ -32,7 +32,7 @@ sub-if3 : tie.Need-sub-if3
 sub-if3 c = search needs
 
 returns-3 : tie.Need-returns-3
-returns-3 c = ?
+returns-3 c = sym (tlvAt-cut _ _ (c .before .before .before .if1 .left) (omega (arith, c .before .field16 .ensures)))
 
 field16-requires-2 : tie.Need-field16-requires-2
 field16-requires-2 c κs = search needs
@@ -41,7 +41,9 @@ add-t7 : tie.Need-add-t7
 add-t7 c = search needs
 
 returns-4 : tie.Need-returns-4
-returns-4 c = ?
+returns-4 c =
+    let a = c .before .before .before .before .before .before .args in
+    cc (tlvAt-whole (a .m .now) (a .at) (c .before .before .before .before .if1 .left) (omega (arith, c .before .before .field16 .ensures)))
 
 pub tlv-at-spec : {M : Type 1} → statement M
 tlv-at-spec =

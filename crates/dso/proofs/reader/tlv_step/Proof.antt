@@ -4,7 +4,7 @@ use contract.Running.{givenOf, tables, tablesOf}
 use denote.Enum.Laws as EL
 use denote.Triple.Spec.{tripleOf}
 use denote.Triple.Table.{entered, cited}
-use Rattle.dso.proofs.Held.{Plain, Held, taking-meets}
+use Rattle.dso.proofs.Held.{Plain, taking-meets}
 use Rattle.dso.specs.Tlv.{tlvAt}
 use Rattle.dso.proofs.reader.TlvStep as S
 use Rattle.dso.proofs.reader.TlvStep.Laws as S′
