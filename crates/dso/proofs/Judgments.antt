@@ -16,8 +16,7 @@ use Rattle.wire.specs.Name.{nameLength, isName}
 use Rattle.wire.proofs.Names.{isName-take}
 use Rattle.dso.specs.Header.{messageId, opcode, isResponse}
 use Rattle.dso.specs.Judge.{Opening, Opening.settled, Opening.primary, mid, badForm, formOf, opening, request, unidirectional, keepalive, question, asks, subscribe, unsubscribe, disputed, disputes, reconfirm, byType, concluded, judgment}
-use Rattle.dso.proofs.Openings.{form-primary, form-settled}
-use Rattle.dso.specs.Steps.{wellFormed}
+use Rattle.dso.proofs.Openings.{Formed, Formed.ill, Formed.well, formed, first-kind, first-data}
 use Rattle.dso.specs.Parts.{firstData, firstType, Sound, SubscribeParts, ReconfirmParts}
 use Rattle.dso.specs.declared.judgment.MessageId.{MessageId}
 use Rattle.dso.specs.declared.judgment.QuestionPlaces.{QuestionPlaces}
@@ -92,9 +91,9 @@ module _ (id k : ℕ) (v : List ℕ) where
   concluded-sound (settled j) h = h
   concluded-sound (primary t) h = rw (h .0, h .1) byType-sound
 
-formOf-settles : (m : List ℕ) (w : Bool) → wellFormed m ≡ w → Settles (messageId m) (firstType m) (firstData m) (formOf m)
-formOf-settles m true w = subst⁻¹ (Settles (messageId m) (firstType m) (firstData m)) (form-primary m w) (refl, refl)
-formOf-settles m false w = subst⁻¹ (Settles (messageId m) (firstType m) (firstData m)) (form-settled m w) (badForm-sound (messageId m) (firstType m) (firstData m))
+formOf-settles : (m : List ℕ) → Formed m → Settles (messageId m) (firstType m) (firstData m) (formOf m)
+formOf-settles m (well t e f) = subst⁻¹ (Settles (messageId m) (firstType m) (firstData m)) f (first-kind m t e, first-data m t e)
+formOf-settles m (ill f) = subst⁻¹ (Settles (messageId m) (firstType m) (firstData m)) f (badForm-sound (messageId m) (firstType m) (firstData m))
 
 opening-settles : (m : List ℕ) → Settles (messageId m) (firstType m) (firstData m) (opening m)
 unfolding opening
@@ -104,7 +103,7 @@ opening-settles m =
     let ours : Opening = cond (not (eqb (opcode m) 6)) (settled NotOurs) form in
     either P (ltb (length m) 12) (settled Abort) ours (λ e. tt)
     (λ e. either P (not (eqb (opcode m) 6)) (settled NotOurs) form (λ d. tt)
-    (λ e. either P (isResponse m) (settled Abort) (formOf m) (λ d. tt) (λ d. formOf-settles m (wellFormed m) refl)))
+    (λ e. either P (isResponse m) (settled Abort) (formOf m) (λ d. tt) (λ d. formOf-settles m (formed m))))
 
 -- Whatever a message is judged to be.
 pub judgment-sound : (m : List ℕ) → Sound (messageId m) (firstType m) (firstData m) (judgment m)

@@ -2,11 +2,15 @@
 -- 5.4.4: "DSO-TYPE: A 16-bit unsigned integer, in network (big endian) byte order", "DSO-LENGTH: A 16-bit unsigned
 -- integer, in network (big endian) byte order, giving the size in bytes of the DSO-DATA."
 use Prim.Native.Nat.{ℕ, zero, suc, _+_}
-use mathlib.Core.Bool.{Bool, true, false}
+use mathlib.Core.Bool.{Bool, true, false, cond}
 use mathlib.Core.List.{List, [], _∷_}
 use mathlib.Core.Option.{Option, none, some}
-use lib.ListN.{take, drop}
+use lib.ListN.{length, take, drop}
+use lib.Dec.{ltb}
 use Rattle.wire.specs.Field.{field}
+use Rattle.dso.specs.declared.reader.TlvPlace.{TlvPlace}
+use Rattle.dso.specs.declared.reader.TlvStep.{TlvStep}
+use Rattle.dso.specs.declared.reader.TlvStep.the-variants.{Whole, End, Cut}
 
 pub record Tlv : Type 0 where
   pub kind : ℕ
@@ -38,3 +42,25 @@ isSome (some ts) = true
 -- Whether TLVs end exactly at the end of a list.
 unfoldable pub filled : List ℕ → Bool
 filled l = isSome (tlvs l)
+
+-- The same step by step, as code reads a message. A TLV of type k and n octets of data at a place: its data stands behind 4
+-- octets of type and length, and the next TLV behind its data.
+abbrev pub tlvPlace : ℕ → ℕ → ℕ → TlvPlace
+tlvPlace k n at = record { kind = k; value = record { start = at + 4; len = n }; next = at + 4 + n }
+
+-- What stands at a place of a message: a whole TLV, one that the message's end cuts short, or nothing more.
+unfoldable pub tlvAt : List ℕ → ℕ → TlvStep
+tlvAt m at =
+    let n : ℕ = field 2 (drop (at + 2) m) in
+    cond (ltb at (length m))
+    (cond (ltb (length m) (at + 4 + n)) Cut (Whole (tlvPlace (field 2 (drop at m)) n at)))
+    End
+
+-- The TLVs from a place on, by what stands there: where it is a whole TLV, it and those from the next place on.
+abbrev pub placed : List ℕ → TlvPlace → Tlv
+placed m t = record { kind = t .kind; value = take (t .value .len) (drop (t .value .start) m) }
+
+abbrev pub stepped : List ℕ → TlvStep → Option (List Tlv)
+stepped m (Whole t) = also (placed m t) (tlvs (drop (t .next) m))
+stepped m End = some []
+stepped m Cut = none

@@ -7,9 +7,9 @@ use crate::judgment::RecordPlaces;
 use crate::judgment::ReplyCode;
 use crate::number::ANY;
 use crate::number::DATA;
+use crate::reader::read_name;
 use wire::NameReading;
 use wire::field16;
-use wire::name_at;
 ghost use mathlib.Core.Path.{_≡_};
 ghost use Rattle.dso.specs.Judge.{keepalive as keepaliveOf, subscribe as subscribeOf, unsubscribe as unsubscribeOf, reconfirm as reconfirmOf};
 
@@ -26,7 +26,7 @@ pub fn keepalive(id: MessageId, s: &[u8]) -> Judgment
 pub fn subscribe(id: MessageId, s: &[u8]) -> Judgment
     ensures { λ r. ⌜ r ≡ subscribeOf (id .0) (now (s .entry)) ⌝ }
 {
-    let NameReading::Name(n) = name_at(s, 0) else {
+    let NameReading::Name(n) = read_name(s, 0) else {
         return Judgment::Reply(id, ReplyCode::FormErr);
     };
     if s.len() != n + 4 {
@@ -62,7 +62,7 @@ pub fn unsubscribe(s: &[u8]) -> Judgment
 pub fn reconfirm(s: &[u8]) -> Judgment
     ensures { λ r. ⌜ r ≡ reconfirmOf (now (s .entry)) ⌝ }
 {
-    let NameReading::Name(n) = name_at(s, 0) else {
+    let NameReading::Name(n) = read_name(s, 0) else {
         return Judgment::Abort;
     };
     let front = n + 4;

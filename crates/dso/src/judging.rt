@@ -7,7 +7,6 @@ use crate::judgment::Judged;
 use crate::judgment::Judgment;
 use crate::judgment::MessageId;
 use crate::judgment::ReplyCode;
-use crate::number::DATA;
 use crate::number::KEEPALIVE;
 use crate::number::PUSH;
 use crate::number::RECONFIRM;
@@ -16,12 +15,14 @@ use crate::number::SUBSCRIBE;
 use crate::number::UNSUBSCRIBE;
 use crate::opening::Start;
 use crate::opening::opened;
+use crate::reader::TlvPlace;
 use wire::field16;
 ghost use mathlib.Core.Path.{_≡_};
 ghost use Prim.Native.Nat.{_+_, _≤_};
-ghost use lib.ListN.{length, take, drop};
+ghost use lib.ListN.{length};
 ghost use Rattle.dso.specs.Header.{messageId};
 ghost use Rattle.dso.specs.Judge.{byType, judged};
+ghost use Rattle.dso.specs.Tlv.{placed};
 
 // With an ID to answer.
 fn request(id: MessageId, kind: u16, s: &[u8]) -> Judgment
@@ -72,13 +73,15 @@ fn by_type(id: MessageId, kind: u16, s: &[u8]) -> Judgment
     }
 }
 
-// The first TLV's data stands behind the header and its own type and length.
-fn primary(m: &[u8], kind: u16, len: usize) -> Judgment
-    requires { ⌜ 16 + len ≤ length (now m) ⌝ }
-    ensures { λ r. ⌜ r ≡ byType (messageId (now (m .entry))) kind (take len (drop 16 (now (m .entry)))) ⌝ }
+// The first TLV decides, by its type and its data.
+fn primary(m: &[u8], t: TlvPlace) -> Judgment
+    requires { ⌜ t .value .start + t .value .len ≤ length (now m) ⌝ }
+    ensures { λ r. ⌜ r ≡ byType (messageId (now (m .entry))) (t .kind) (placed (now (m .entry)) t .value) ⌝ }
 {
     let id = MessageId(field16(m, 0));
-    by_type(id, kind, &m[DATA..DATA + len])
+    let start = t.value.start;
+    let end = start + t.value.len;
+    by_type(id, t.kind, &m[start..end])
 }
 
 // Steps 1 to 5 of 01, without the tests that need the session. Total: a message of any length is judged.
@@ -90,9 +93,9 @@ pub fn judge(m: &[u8]) -> Judged
             judgment: j,
             keepalive: false,
         },
-        Start::Primary(kind, len) => Judged {
-            judgment: primary(m, kind, len),
-            keepalive: kind == KEEPALIVE,
+        Start::Primary(t) => Judged {
+            judgment: primary(m, t),
+            keepalive: t.kind == KEEPALIVE,
         },
     }
 }

@@ -6,6 +6,7 @@ mod judgment;
 mod matching;
 mod number;
 mod opening;
+mod reader;
 mod response;
 mod tlv;
 

@@ -13,10 +13,8 @@ pub const RECONFIRM: u16 = 0x43;
 
 pub const OPCODE: u16 = 6;
 
-// Where the first TLV begins, behind the header; its length, and its data.
+// Where the first TLV begins, behind the header; and its data.
 pub const HEADER: usize = 12;
-
-pub const DATA_LENGTH: usize = 14;
 
 pub const DATA: usize = 16;
 

@@ -5,20 +5,22 @@ use crate::header::opcode_of;
 use crate::judgment::Judgment;
 use crate::judgment::MessageId;
 use crate::judgment::ReplyCode;
-use crate::number::DATA_LENGTH;
 use crate::number::HEADER;
 use crate::number::OPCODE;
+use crate::reader::TlvPlace;
+use crate::reader::TlvStep;
+use crate::reader::read_tlv;
 use crate::tlv::tlvs_fill;
 use wire::field16;
 ghost use mathlib.Core.Path.{_≡_};
 ghost use Rattle.dso.specs.Header.{messageId};
 ghost use Rattle.dso.specs.Judge.{badForm, formOf, opening};
-ghost use Rattle.dso.specs.Steps.{startOf, wellFormed};
+ghost use Rattle.dso.specs.Steps.{startOf};
 
-// The judgment is settled, or the first TLV decides: its type, and the length of its data.
+// The judgment is settled, or the first TLV decides.
 pub enum Start {
     Settled(Judgment),
-    Primary(u16, usize),
+    Primary(TlvPlace),
 }
 
 fn bad_form(m: &[u8]) -> Judgment
@@ -32,22 +34,17 @@ fn bad_form(m: &[u8]) -> Judgment
     }
 }
 
-fn well_formed(m: &[u8]) -> bool
-    ensures { λ r. ⌜ r ≡ wellFormed (now (m .entry)) ⌝ }
-{
-    if no_records(m) {
-        if HEADER < m.len() {
-            return tlvs_fill(m, HEADER);
-        }
-    }
-    false
-}
-
 fn form(m: &[u8]) -> Start
     ensures { λ r. ⌜ r ≡ startOf (formOf (now (m .entry))) ⌝ }
 {
-    if well_formed(m) {
-        Start::Primary(field16(m, HEADER), field16(m, DATA_LENGTH) as usize)
+    if !no_records(m) {
+        return Start::Settled(bad_form(m));
+    }
+    let TlvStep::Whole(t) = read_tlv(m, HEADER) else {
+        return Start::Settled(bad_form(m));
+    };
+    if tlvs_fill(m, t.next) {
+        Start::Primary(t)
     } else {
         Start::Settled(bad_form(m))
     }

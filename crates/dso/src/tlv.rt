@@ -1,5 +1,6 @@
 // TLVs that fill a message.
-use wire::field16;
+use crate::reader::TlvStep;
+use crate::reader::read_tlv;
 ghost use mathlib.Core.Path.{_≡_};
 ghost use lib.ListN.{drop};
 ghost use Rattle.dso.specs.Tlv.{filled};
@@ -9,15 +10,17 @@ pub fn tlvs_fill(m: &[u8], from: usize) -> bool
     ensures { λ r. ⌜ r ≡ filled (drop from (now (m .entry))) ⌝ }
 {
     let mut at = from;
-    while at < m.len() {
-        if m.len() - at < 4 {
-            return false;
+    loop {
+        match read_tlv(m, at) {
+            TlvStep::Whole(t) => {
+                at = t.next;
+            }
+            TlvStep::End => {
+                return true;
+            }
+            TlvStep::Cut => {
+                return false;
+            }
         }
-        let n = field16(m, at + 2) as usize;
-        if m.len() - at - 4 < n {
-            return false;
-        }
-        at += 4 + n;
     }
-    true
 }

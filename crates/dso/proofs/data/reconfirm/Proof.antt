@@ -9,8 +9,8 @@ use native.Mathlib.Omega.{arith}
 use Rattle.dso.proofs.data.reconfirm.Statement.{statement}
 use Rattle.dso.proofs.data.reconfirm.Tie as tie
 
-name-at-requires : tie.Need-name-at-requires
-name-at-requires c κs = search needs
+read-name-requires : tie.Need-read-name-requires
+read-name-requires c κs = search needs
 
 enum-known-n : tie.Need-enum-known-n
 enum-known-n c = search needs
@@ -20,16 +20,16 @@ enum-told c = search needs
 
 returns : tie.Need-returns
 unfolding reconfirm
-returns c = rw (nameAt-none _ _ 0 (c .before .before .name-at .ensures) (c .enum-told .given .1))
+returns c = rw (nameAt-none _ _ 0 (c .before .before .read-name .ensures) (c .enum-told .given .1))
 
 add-front : tie.Need-add-front
-add-front c = omega (arith, name-max _ _ _ (c .before .before .before .name-at .ensures) (c .before .n .given .1))
+add-front c = omega (arith, name-max _ _ _ (c .before .before .before .read-name .ensures) (c .before .n .given .1))
 
 returns-2 : tie.Need-returns-2
 unfolding reconfirm
 returns-2 c =
     let at-name = c .before .before in
-    rw (nameAt-name _ _ 0 _ (at-name .before .before .name-at .ensures) (at-name .n .given .1), lt-ltb _ _ (c .if1 .taken))
+    rw (nameAt-name _ _ 0 _ (at-name .before .before .read-name .ensures) (at-name .n .given .1), lt-ltb _ _ (c .if1 .taken))
 
 field16-requires : tie.Need-field16-requires
 field16-requires c κs = search needs
@@ -38,7 +38,7 @@ returns-3 : tie.Need-returns-3
 unfolding reconfirm
 returns-3 c =
     let at-name = c .before .before .before .before in
-    rw (nameAt-name _ _ 0 _ (at-name .before .before .name-at .ensures) (at-name .n .given .1), le-ltb _ _ (c .before .before .if1 .left), is 255 (c .before .field16 .ensures) (c .if2 .taken))
+    rw (nameAt-name _ _ 0 _ (at-name .before .before .read-name .ensures) (at-name .n .given .1), le-ltb _ _ (c .before .before .if1 .left), is 255 (c .before .field16 .ensures) (c .if2 .taken))
 
 add-field16 : tie.Need-add-field16
 add-field16 c = search needs
@@ -50,7 +50,7 @@ returns-4 : tie.Need-returns-4
 unfolding reconfirm
 returns-4 c =
     let at-name = c .before .before .before .before .before .before in
-    rw (nameAt-name _ _ 0 _ (at-name .before .before .name-at .ensures) (at-name .n .given .1), le-ltb _ _ (c .before .before .before .before .if1 .left), isnt 255 (c .before .before .before .field16 .ensures) (c .before .before .if2 .left), is 255 (c .before .field162 .ensures) (c .if3 .taken))
+    rw (nameAt-name _ _ 0 _ (at-name .before .before .read-name .ensures) (at-name .n .given .1), le-ltb _ _ (c .before .before .before .before .if1 .left), isnt 255 (c .before .before .before .field16 .ensures) (c .before .before .if2 .left), is 255 (c .before .field162 .ensures) (c .if3 .taken))
 
 add-at : tie.Need-add-at
 add-at c = search needs
@@ -68,13 +68,13 @@ returns-5 : tie.Need-returns-5
 unfolding reconfirm
 returns-5 c =
     let at-name = c .before .before .before .before .before .before in
-    rw (nameAt-name _ _ 0 _ (at-name .before .before .name-at .ensures) (at-name .n .given .1), le-ltb _ _ (c .before .before .before .before .if1 .left), isnt 255 (c .before .before .before .field16 .ensures) (c .before .before .if2 .left), isnt 255 (c .before .field162 .ensures) (c .if3 .left))
+    rw (nameAt-name _ _ 0 _ (at-name .before .before .read-name .ensures) (at-name .n .given .1), le-ltb _ _ (c .before .before .before .before .if1 .left), isnt 255 (c .before .before .before .field16 .ensures) (c .before .before .if2 .left), isnt 255 (c .before .field162 .ensures) (c .if3 .left))
 
 pub reconfirm-spec : {M : Type 1} → statement M
 reconfirm-spec =
     tie.close
     (tie.spec
-    name-at-requires
+    read-name-requires
     enum-known-n
     enum-told
     returns

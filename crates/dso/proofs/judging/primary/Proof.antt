@@ -8,8 +8,8 @@ use Rattle.dso.proofs.judging.primary.Tie as tie
 field16-requires : tie.Need-field16-requires
 field16-requires c κs = search needs
 
-add-by-type : tie.Need-add-by-type
-add-by-type c = search needs
+add-end : tie.Need-add-end
+add-end c = search needs
 
 sub-by-type : tie.Need-sub-by-type
 sub-by-type c = search needs
@@ -25,15 +25,15 @@ by-type-requires c κs = search needs
 
 returns : tie.Need-returns
 returns c =
-    let a = c .before .before .before .before .args in
-    data-part (a .m .now) _ (a .kind) (a .len) _ (c .before .before .field16 .ensures) (c .by-type .ensures)
+    let a = c .before .before .before .before .before .args in
+    data-part (a .m .now) _ (a .t) _ (c .before .before .before .field16 .ensures) (c .by-type .ensures)
 
 pub primary-spec : {M : Type 1} → statement M
 primary-spec =
     tie.close
     (tie.spec
     field16-requires
-    add-by-type
+    add-end
     sub-by-type
     part-by-type-start
     part-by-type-end
