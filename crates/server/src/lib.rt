@@ -3,6 +3,7 @@ mod answer;
 mod calls;
 mod checks;
 mod delivery;
+mod output;
 mod places;
 mod pushing;
 mod starting;
