@@ -144,9 +144,47 @@ module _ (a b : List ℕ) (i : ℕ) (r : Alike a b i) where
         ∙ ap (λ (j : ℕ). sameName (drop j a) (drop j b)) (sym (add-one i));
   }
 
+  pub alike-rest : (t : Bool) → t ≡ sameName (drop i a) (drop i b) → t ≡ sameName a b
+  alike-rest t e = e ∙ sym (r .rest)
+
   pub unlike-octet : i < length a → (lower (getD a i 0) ≡ lower (getD b i 0) → ⊥) → false ≡ sameName a b
   unlike-octet h e =
       sym (turn h ∙ ap (λ (t : Bool). t && sameName (drop (suc i) a) (drop (suc i) b)) (ne-eqb (lower (getD a i 0)) (lower (getD b i 0)) e))
+
+-- What was gathered from a place on, octet by octet, and what is left.
+pub record Gathered (a b : List ℕ) (from : ℕ) (same : Bool) (i : ℕ) : Type 0 where
+  pub long : length a ≡ length b
+  pub whole : sameName (drop from a) (drop from b) ≡ same && sameName (drop i a) (drop i b)
+
+pub gathered-none : (a b : List ℕ) (from : ℕ) → length a ≡ length b → Gathered a b from true from
+gathered-none a b from h = record { long = h; whole = refl }
+
+and-and : (x y z : Bool) → x && (y && z) ≡ x && y && z
+and-and true y z = refl
+and-and false y z = refl
+
+and-true : (x : Bool) → x && true ≡ x
+and-true true = refl
+and-true false = refl
+
+module _ (a b : List ℕ) (from : ℕ) (same : Bool) (i : ℕ) (r : Gathered a b from same i) where
+  pub gathered-turn : (x y : ℕ) → x ≡ lower (getD a i 0) → y ≡ lower (getD b i 0) → i < length a → Gathered a b from (same && eqb x y) (i + 1)
+  unfolding sameName sameOctets
+  gathered-turn x y ex ey h =
+      let k : i < length b = omega (arith, r .long) in
+      record {
+        long = r .long;
+        whole = r .whole ∙ ap₂ (λ (v w : List ℕ). same && sameName v w) (drop-cons a i 0 h) (drop-cons b i 0 k)
+            ∙ ap₂ (λ (v w : ℕ). same && (eqb v w && sameName (drop (suc i) a) (drop (suc i) b))) (sym ex) (sym ey)
+            ∙ and-and same (eqb x y) (sameName (drop (suc i) a) (drop (suc i) b))
+            ∙ ap (λ (j : ℕ). same && eqb x y && sameName (drop j a) (drop j b)) (sym (add-one i));
+      }
+
+  pub gathered-end : length a ≤ i → same ≡ sameName (drop from a) (drop from b)
+  unfolding sameName sameOctets
+  gathered-end h =
+      let k : length b ≤ i = omega (arith, r .long) in
+      sym (r .whole ∙ ap₂ (λ (x y : List ℕ). same && sameName x y) (drop-of-length-le a h) (drop-of-length-le b k) ∙ and-true same)
 
 -- ---- the labels of a name passed, in search of a zone
 

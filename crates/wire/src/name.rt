@@ -1,5 +1,6 @@
 // Names: reading one, comparing two, and one being at or below another.
 ghost use mathlib.Core.Path.{_≡_};
+ghost use lib.ListN.{length, drop};
 ghost use Rattle.wire.specs.Name.{lower, sameOctets, sameName, within as isWithin};
 ghost use Rattle.wire.specs.Reading.{nameAt, nameFront};
 
@@ -49,6 +50,23 @@ fn lower(b: u8) -> u8
     b
 }
 
+// How many octets are looked at one by one: names of one zone and length mostly differ in their first octets.
+const FRONT: usize = 8;
+
+// From a place on, without leaving early, so that many octets are compared at once.
+fn same_from(a: &[u8], b: &[u8], from: usize) -> bool
+    requires { ⌜ length (now a) ≡ length (now b) ⌝ }
+    ensures { λ r. ⌜ r ≡ sameName (drop from (now (a .entry))) (drop from (now (b .entry))) ⌝ }
+{
+    let mut same = true;
+    let mut i = from;
+    while i < a.len() {
+        same = same & (lower(a[i]) == lower(b[i]));
+        i += 1;
+    }
+    same
+}
+
 // Octets of unlike length are told apart without looking at them.
 pub fn same_octets(a: &[u8], b: &[u8]) -> bool
     ensures { λ r. ⌜ r ≡ sameOctets (now (a .entry)) (now (b .entry)) ⌝ }
@@ -66,6 +84,7 @@ pub fn same_octets(a: &[u8], b: &[u8]) -> bool
     true
 }
 
+// Names of unlike length likewise.
 pub fn same_name(a: &[u8], b: &[u8]) -> bool
     ensures { λ r. ⌜ r ≡ sameName (now (a .entry)) (now (b .entry)) ⌝ }
 {
@@ -74,6 +93,9 @@ pub fn same_name(a: &[u8], b: &[u8]) -> bool
     }
     let mut i = 0;
     while i < a.len() {
+        if FRONT <= i {
+            return same_from(a, b, i);
+        }
         if lower(a[i]) != lower(b[i]) {
             return false;
         }
