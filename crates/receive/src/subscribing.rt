@@ -222,7 +222,7 @@ pub fn receive(
     ensures { λ r. ⌜ Does (messageEffect (now (zone .entry)) (recordsOf records (now (store .entry))) t (now (m .entry)) (sessionOf clocks count (now (subs .entry)))) r (now (subs .exit)) (now (out .entry)) (now (out .exit)) ⌝ }
 {
     let judged = dso::judge(m);
-    let then = session::received(clocks, judged.keepalive, t);
+    let then = session::restarted(clocks, judged.keepalive, t);
     let j = judged.judgment;
     answer(zone, store, records, then, subs, count, m, j, out)
 }

@@ -36,7 +36,7 @@ pub fn started(t: u64) -> Clocks
 }
 
 // After a received message that does not abort; `keepalive` says whether it is a Keepalive, which leaves the inactivity clock.
-pub fn received(c: Clocks, keepalive: bool, t: u64) -> Clocks
+fn received(c: Clocks, keepalive: bool, t: u64) -> Clocks
     ensures { λ r. ⌜ r ≡ receivedAt keepalive t c ⌝ }
 {
     Clocks {
@@ -45,6 +45,22 @@ pub fn received(c: Clocks, keepalive: bool, t: u64) -> Clocks
         inactivity: c.inactivity,
         keepalive: c.keepalive,
     }
+}
+
+// Restarts the clocks where they lie: both, or after a Keepalive the keepalive clock alone.
+pub fn restart(clocks: &mut Clocks, keepalive: bool, t: u64)
+    ensures { λ _. ⌜ now (clocks .exit) ≡ receivedAt keepalive t (now (clocks .entry)) ⌝ }
+{
+    *clocks = received(*clocks, keepalive, t);
+}
+
+// The same for whoever holds the clocks by value: they are lent from a local.
+pub fn restarted(c: Clocks, keepalive: bool, t: u64) -> Clocks
+    ensures { λ r. ⌜ r ≡ receivedAt keepalive t c ⌝ }
+{
+    let mut clocks = c;
+    restart(&mut clocks, keepalive, t);
+    clocks
 }
 
 // With the timeouts that a Keepalive reply carries.
