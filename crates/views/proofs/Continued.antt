@@ -24,11 +24,15 @@ module _ (s : Server) (before between after : Memory) (t : ℕ) (m b lent output
     (opens-it : (k : Memory) → Serves s k (opens t) x k [])
     (hears : ((small : areBytes m ≡ true) → Serves (x .server) before (receives t 0 (record { list = m; small = small }) lent) y between output) × (areBytes m ≡ true))
     (tells : ((small : areBytes b ≡ true) → Serves (y .server) between (edits t (record { list = b; small = small }) lent′) z after output′) × (areBytes b ≡ true)) where
-  pub continues : Continues s before t m b lent output lent′ output′ (record { opened = x .answer; heard = y .answer; told = z }) after
+  pub continues : Continues s before t m b lent output lent′ output′ (record { opened = x; heard = y; told = z }) after
   continues =
       record {
         message = hears .1;
         batch = tells .1;
+        between = between;
+        opening = opens-it;
+        hearing = hears .0 (hears .1);
+        telling = tells .0 (tells .1);
         runs = λ p. next (past p) (edits t (record { list = b; small = tells .1 }) lent′) z after output′ (tells .0 (tells .1));
         holds = λ p. demand-three (past p) (edits t (record { list = b; small = tells .1 }) lent′) z after output′ (tells .0 (tells .1));
       }
@@ -51,6 +55,13 @@ module _ (zone : List ℕ) (was is : List ℕ) (k : Started) (e : Starts zone wa
       → Continues s (memoryOf is first second a c d f) t m b lent output lent′ output′ r after
       → Begins zone t m b lent output lent′ output′ r after
   begins s p t m b lent output lent′ output′ first second a c d f r after h =
-      let run : Runs zone (record { server = s; memory = memoryOf is first second a c d f }) (watching zone)
-      = begun s (memoryOf is first second a c d f) was (rw (← p) e) in
-      record { message = h .message; batch = h .batch; runs = h .runs run; holds = h .holds run }
+      let held : Memory = memoryOf is first second a c d f in
+      let run : Runs zone (record { server = s; memory = held }) (watching zone) = begun s held was (rw (← p) e) in
+      record {
+        server = s;
+        before = held;
+        starts = sym (e .state held) ∙ ap (λ (x : Started). startedOf x (withZone is held)) p;
+        continues = h;
+        runs = h .runs run;
+        holds = h .holds run;
+      }

@@ -1,5 +1,4 @@
 // Demand 3 stated about the calls' own promises; and calls in code, one after the other, of which it is proved.
-use server::Answer;
 use server::Outcome;
 use server::Server;
 use server::Started;
@@ -12,10 +11,13 @@ use service::SessionNumber;
 ghost use Rattle.server.specs.Memory.{memoryOf};
 ghost use Rattle.views.specs.Plays.{Continues, Plays};
 
-// What an open and a message answered, and what the batch after them gave.
+// The lent memory of the zone's name.
+pub type Name = [u8; 255];
+
+// What an open, a message and a batch gave.
 pub struct Ran {
-    pub opened: Answer,
-    pub heard: Answer,
+    pub opened: Outcome,
+    pub heard: Outcome,
     pub told: Outcome,
 }
 
@@ -28,7 +30,7 @@ pub enum Played {
 // After any run: an open, a message to session 0, and a batch.
 pub fn proceed(
     server: Server,
-    zone: &[u8; 255],
+    zone: &Name,
     first: &mut zone::Area,
     second: &mut zone::Area,
     s0: &mut session::Area,
@@ -44,12 +46,10 @@ pub fn proceed(
     ensures { λ r. ⌜ Continues server (memoryOf (now (zone .entry)) (now (first .entry)) (now (second .entry)) (now (s0 .entry)) (now (s1 .entry)) (now (s2 .entry)) (now (s3 .entry))) t (now (m .entry)) (now (bytes .entry)) (now (reply .entry)) (now (reply .exit)) (now (out .entry)) (now (out .exit)) r (memoryOf (now (zone .entry)) (now (first .exit)) (now (second .exit)) (now (s0 .exit)) (now (s1 .exit)) (now (s2 .exit)) (now (s3 .exit))) ⌝ }
 {
     let i = SessionNumber(0);
-    let a = open(server, t);
-    let x = a.server;
-    let b = message(x, zone, first, second, s0, s1, s2, s3, t, i, m, reply);
-    let y = b.server;
-    let opened = a.answer;
-    let heard = b.answer;
+    let opened = open(server, t);
+    let x = opened.server;
+    let heard = message(x, zone, first, second, s0, s1, s2, s3, t, i, m, reply);
+    let y = heard.server;
     Ran {
         opened,
         heard,
@@ -60,7 +60,7 @@ pub fn proceed(
 // The same on a fresh server, from its start.
 pub fn play(
     name: &[u8],
-    zone: &mut [u8; 255],
+    zone: &mut Name,
     first: &mut zone::Area,
     second: &mut zone::Area,
     s0: &mut session::Area,
