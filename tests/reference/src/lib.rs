@@ -3,6 +3,8 @@
 
 pub mod book;
 pub mod call;
+pub mod child;
+pub mod compare;
 pub mod craft;
 pub mod edits;
 pub mod generate;
@@ -15,6 +17,7 @@ pub mod name;
 pub mod name_cases;
 pub mod notices;
 pub mod observer;
+pub mod player;
 pub mod pool;
 pub mod push_cases;
 pub mod push_edits;
@@ -26,9 +29,11 @@ pub mod push_walks;
 pub mod random;
 pub mod reading;
 pub mod replay;
+pub mod runs;
 pub mod script;
 pub mod selftest;
 pub mod server;
 pub mod shorter;
+pub mod tally;
 pub mod timing;
 pub mod zone;
