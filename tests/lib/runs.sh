@@ -1,0 +1,5 @@
+# The runs of the gate, for tests/compare.sh and tests/mutants.sh: a first seed and how many calls are compared.
+seed=1
+calls=200000
+reference=tests/reference/target/release/reference
+run() { printf '+ %s\n' "$*"; "$@"; }
