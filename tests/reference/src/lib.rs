@@ -8,6 +8,7 @@ pub mod compare;
 pub mod craft;
 pub mod edits;
 pub mod generate;
+pub mod heavy;
 pub mod hex;
 pub mod kind_cases;
 pub mod limits;

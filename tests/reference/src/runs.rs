@@ -9,7 +9,7 @@ use crate::replay::{read_line, write_line};
 use crate::script::{next_line, BEGINNINGS};
 use crate::server::OUTPUT;
 use crate::tally::Tally;
-use crate::{hex, selftest};
+use crate::{heavy, hex, selftest};
 
 /// Lines without their LF, for each the lines that it prints, and what they came to.
 pub struct Run {
@@ -34,12 +34,12 @@ impl Run {
     pub fn random(language: Language, seed: u64, length: usize) -> Run {
         let mut player = Player::new(language);
         let mut generator = Generator::new(seed, &player.server.zone);
-        let (mut lines, mut expected) = (Vec::new(), Vec::new());
+        let (mut lines, mut expected, mut steps) = (Vec::new(), Vec::new(), Vec::new());
         for number in 0..length {
             let line = match (number, language) {
                 (0, Language::Service) => start(&mut generator, seed),
                 (0, _) | (1, Language::Service) => open(&mut generator.random),
-                _ => later(language, &mut generator, &player, length - number),
+                _ => later(language, &mut generator, &player, &mut steps, length - number),
             };
             expected.push(player.step(&line));
             lines.push(line);
@@ -71,7 +71,20 @@ fn start_line(zone: &[u8]) -> Vec<u8> {
     format!("start\t{}", hex::write(zone)).into_bytes()
 }
 
-fn later(language: Language, generator: &mut Generator, player: &Player, left: usize) -> Vec<u8> {
+/// A line after the first, given the steps that are under way and how many lines are left.
+fn later(
+    language: Language,
+    generator: &mut Generator,
+    player: &Player,
+    steps: &mut Vec<heavy::Step>,
+    left: usize,
+) -> Vec<u8> {
+    if steps.is_empty() && generator.random.once_in(300) {
+        steps.extend(heavy::STEPS);
+    }
+    if let Some(step) = steps.pop() {
+        return heavy::line(step, &player.server, &mut generator.random);
+    }
     if language == Language::Service && generator.random.once_in(60) {
         return beyond(generator, player);
     }

@@ -9,6 +9,8 @@ pub struct Tally {
     answers: BTreeMap<(&'static str, u32), u64>,
     replies: BTreeMap<u8, u64>,
     changes: BTreeMap<&'static str, u64>,
+    /// The most bytes that a call wrote for a session.
+    longest: usize,
 }
 
 impl Tally {
@@ -19,6 +21,7 @@ impl Tally {
     pub fn note_outcome(&mut self, call: &Call, outcome: &Outcome) {
         self.note(call.verb(), outcome.answer.number());
         for bytes in outcome.output.iter().filter(|bytes| bytes.len() > 5) {
+            self.longest = self.longest.max(bytes.len());
             if bytes[4] & 0x80 != 0 {
                 *self.replies.entry(bytes[5] & 15).or_default() += 1;
             }
@@ -31,6 +34,7 @@ impl Tally {
     pub fn add(&mut self, other: &Tally) {
         other.answers.iter().for_each(|(key, count)| *self.answers.entry(*key).or_default() += count);
         other.replies.iter().for_each(|(key, count)| *self.replies.entry(*key).or_default() += count);
+        self.longest = self.longest.max(other.longest);
         other.changes.iter().for_each(|(key, count)| *self.changes.entry(key).or_default() += count);
     }
 
@@ -49,10 +53,11 @@ impl Tally {
         let replies: Vec<String> = self.replies.iter().map(|(code, count)| format!("{code}: {count}")).collect();
         let changes: Vec<String> = self.changes.iter().map(|(kind, count)| format!("{kind} {count}")).collect();
         format!(
-            "{}replies by RCODE: {}\nnotifications after batches: {}\n",
+            "{}replies by RCODE: {}\nnotifications after batches: {}\nthe most bytes for a session: {}\n",
             by_verb.concat(),
             replies.join(", "),
-            changes.join(", ")
+            changes.join(", "),
+            self.longest
         )
     }
 }

@@ -40,8 +40,13 @@ fn runs_reach_what_lines_can() {
         "answers to tick: 1: , 11: ",
         "answers to ?: 19: ",
         "replies by RCODE: 0: , 1: , 2: , 9: , 11: ",
+        // A reply of 14 bytes with its prefix, and the largest PUSH with its own.
+        &format!("the most bytes for a session: {}", 14 + 2 + 15_736),
         "adds , of all classes , of all types , of an RRset , removals of one record ",
     ] {
+        if report.lines().any(|other| other == line) {
+            continue;
+        }
         // The counts are left out of the report's lines, the numbers that end in a colon are kept.
         let bare: Vec<String> = report.lines().map(without_counts).collect();
         assert!(bare.iter().any(|other| other.contains(line.trim_end())), "{line:?} is not in\n{report}");
