@@ -89,24 +89,38 @@ fn later(
         return beyond(generator, player);
     }
     let line = next_line(generator, &player.server, left);
-    if generator.random.once_in(12) {
-        lengthened(line, &mut generator.random)
-    } else {
-        line
+    match generator.random.below(24) {
+        0 | 1 => changed(line, &mut generator.random, lengthen),
+        2 => changed(line, &mut generator.random, set_flags),
+        _ => line,
     }
 }
 
-/// A message with one more TLV behind its own, whole or not: types that a first TLV may have, and others.
-fn lengthened(line: Vec<u8>, random: &mut Random) -> Vec<u8> {
+/// The line of a message with something done to its bytes; other lines as they are.
+fn changed(line: Vec<u8>, random: &mut Random, change: impl Fn(&mut Vec<u8>, &mut Random)) -> Vec<u8> {
     let Some(Call::Message { time, session, mut bytes }) = read_line(&line) else {
         return line;
     };
+    change(&mut bytes, random);
+    write_line(&Call::Message { time, session, bytes }).into_bytes()
+}
+
+/// One more TLV, whole or not, of a type that a first TLV may have or of another.
+fn lengthen(bytes: &mut Vec<u8>, random: &mut Random) {
     let data = vec![random.byte(); random.below(12)];
     bytes.extend(craft::tlv(*random.pick(&[0, 1, 2, 3, 0x40, 0x41, 0x42, 0x43, 0xf800]), &data));
     if random.once_in(4) {
         bytes.truncate(bytes.len() - random.below(5));
     }
-    write_line(&Call::Message { time, session, bytes }).into_bytes()
+}
+
+/// Other flags: any, those of a request with Z and RCODE, or those of a response with any opcode.
+fn set_flags(bytes: &mut Vec<u8>, random: &mut Random) {
+    let any = random.number() as u16;
+    let flags = *random.pick(&[any, craft::REQUEST | any & 0x07ff, any | 0x8000]);
+    if let Some(place) = bytes.get_mut(2..4) {
+        place.copy_from_slice(&flags.to_be_bytes());
+    }
 }
 
 /// What only the C service can be asked.
