@@ -5,6 +5,7 @@ use crate::player::Language;
 use crate::runs::Run;
 use crate::tally::Tally;
 use std::io;
+use std::thread;
 use std::time::{Duration, Instant};
 
 const LINES_PER_RUN: usize = 1_000;
@@ -49,15 +50,30 @@ impl Comparison {
         let begun = Instant::now();
         let (mut runs, mut tally) = (0, Tally::default());
         while tally.calls() < calls {
-            let run_seed = seed.wrapping_add(runs);
-            let run = Run::random(self.language, run_seed, LINES_PER_RUN);
-            if let Some(place) = self.difference(&run)? {
-                return Ok(Err(Box::new(self.narrow(run_seed, runs, run, place)?)));
+            for (run, place) in self.several(seed.wrapping_add(runs))? {
+                if let Some(place) = place {
+                    return Ok(Err(Box::new(self.narrow(seed.wrapping_add(runs), runs, run, place)?)));
+                }
+                tally.add(&run.tally);
+                runs += 1;
             }
-            tally.add(&run.tally);
-            runs += 1;
         }
         Ok(Ok(Agreement { runs, tally, time: begun.elapsed() }))
+    }
+
+    /// Runs from a seed on, as many at once as the machine can, each with its first difference.
+    fn several(&self, seed: u64) -> io::Result<Vec<(Run, Option<Place>)>> {
+        let one = |seed: u64| {
+            let run = Run::random(self.language, seed, LINES_PER_RUN);
+            let place = self.difference(&run)?;
+            Ok((run, place))
+        };
+        let at_once = thread::available_parallelism().map_or(1, |count| count.get().min(4)) as u64;
+        thread::scope(|scope| {
+            let workers: Vec<_> =
+                (0..at_once).map(|number| scope.spawn(move || one(seed.wrapping_add(number)))).collect();
+            workers.into_iter().map(|worker| worker.join().expect("a run does not panic")).collect()
+        })
     }
 
     /// The first line to which the child says something else.
