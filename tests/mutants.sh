@@ -103,7 +103,7 @@ error type-of-all-classes-any notices 's/Scope::AllClasses => (name, 0, ANY/Scop
 error first-push-without-the-known server 's/records.iter().filter(|record| zone::matches(&question, record))/records.iter().filter(|record| zone::matches(\&question, record) \&\& !(WRONG \&\& session.subscriptions.iter().any(|s| zone::matches(\&s.question, record))))/'
 
 run rustc --edition 2021 -O -o "$out/mutant" "$out/main.rs"
-[ -x "$reference" ] || run cargo build --quiet --release -j1 --manifest-path tests/reference/Cargo.toml
+run cargo build --quiet --release -j1 --manifest-path tests/reference/Cargo.toml
 
 # Without an error the copy is the server itself.
 $reference compare --language replay --seed "$seed" --calls 5000 -- "$out/mutant" >"$out/none.txt" || {

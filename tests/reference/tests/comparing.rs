@@ -10,7 +10,7 @@ fn with(command: &str) -> Comparison {
 }
 
 fn own(arguments: &str) -> String {
-    format!("{} {arguments}", env!("CARGO_BIN_EXE_reference"))
+    format!("'{}' {arguments}", env!("CARGO_BIN_EXE_reference"))
 }
 
 fn report(command: &str) -> String {
@@ -85,7 +85,8 @@ fn a_child_that_fails_is_a_difference() {
 #[test]
 fn a_child_that_keeps_back_its_output_and_dies() {
     // All output is lost where a tick stands in the input.
-    let report = report(&format!("f=$(mktemp); cat >$f; grep -q ^tick $f && exit 9; {} <$f", own("replay")));
+    let keep = "f=$(mktemp); trap 'rm -f $f' EXIT; cat >$f; grep -q ^tick $f && exit 9;";
+    let report = report(&format!("{keep} {} <$f", own("replay")));
     assert!(report.contains("so do these 1, of which none can be left out:\ntick\t"), "{report}");
 }
 
