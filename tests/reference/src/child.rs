@@ -22,18 +22,20 @@ pub fn hear(command: &[String], input: &[u8]) -> io::Result<Heard> {
         .args(arguments)
         .stdin(Stdio::piped())
         .stdout(Stdio::piped())
+        .stderr(Stdio::piped())
         .spawn()
         .map_err(|error| io::Error::new(error.kind(), format!("{program}: {error}")))?;
-    let (mut stdin, mut stdout) = (child.stdin.take().expect("piped"), child.stdout.take().expect("piped"));
+    let mut stdin = child.stdin.take().expect("piped");
+    let (stdout, stderr) = (child.stdout.take().expect("piped"), child.stderr.take().expect("piped"));
     thread::scope(|scope| {
         // A child that ends before it has read all breaks the pipe; its output and its status tell.
         scope.spawn(move || stdin.write_all(input));
+        let errors = scope.spawn(move || whole(stderr));
         let (done, ending) = mpsc::channel();
         let reader = scope.spawn(move || {
-            let mut output = Vec::new();
-            let read = stdout.read_to_end(&mut output).map(|_| output);
+            let output = whole(stdout);
             let _ = done.send(());
-            read
+            output
         });
         let late = ending.recv_timeout(PATIENCE).is_err();
         if late {
@@ -41,11 +43,25 @@ pub fn hear(command: &[String], input: &[u8]) -> io::Result<Heard> {
         }
         let output = reader.join().expect("the reader does not panic")?;
         let status = child.wait()?;
+        let errors = errors.join().expect("the reader does not panic")?;
         let complaint = match (late, status.success()) {
             (true, _) => Some(format!("it had not ended after {} seconds", PATIENCE.as_secs())),
             (false, false) => Some(format!("it ended with {status}")),
             (false, true) => None,
         };
-        Ok(Heard { output, complaint })
+        Ok(Heard { output, complaint: complaint.map(|text| text + &first_line(&errors)) })
     })
+}
+
+fn whole(mut stream: impl Read) -> io::Result<Vec<u8>> {
+    let mut bytes = Vec::new();
+    stream.read_to_end(&mut bytes).map(|_| bytes)
+}
+
+/// The first line of what a child said on standard error, if it said something.
+fn first_line(errors: &[u8]) -> String {
+    match String::from_utf8_lossy(errors).lines().next() {
+        Some(line) => format!(", with the words: {line}"),
+        None => String::new(),
+    }
 }

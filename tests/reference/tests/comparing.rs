@@ -76,7 +76,8 @@ fn a_difference_is_narrowed() {
 
 #[test]
 fn a_child_that_fails_is_a_difference() {
-    assert!(report("exit 3").contains("nothing more; it ended with exit status: 3"));
+    let silent = report("echo a fault >&2; exit 3");
+    assert!(silent.contains("nothing more; it ended with exit status: 3, with the words: a fault"), "{silent}");
     assert!(report(&format!("{}; exit 3", own("replay"))).contains("it ended with exit status: 3"));
     assert!(report(&format!("{}; echo more", own("replay"))).contains("found    more"));
     assert!(report(&format!("{} | head -n 5", own("replay"))).contains("nothing more"));
