@@ -1,8 +1,8 @@
 //! Random runs through a child process that speaks the replay language, held line by line to this server.
 
 use crate::child::hear;
+use crate::line_runs::Run;
 use crate::player::Language;
-use crate::runs::Run;
 use crate::tally::Tally;
 use std::io;
 use std::thread;

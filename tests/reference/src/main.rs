@@ -1,15 +1,13 @@
 //! The command line.
 
-use reference::compare::Comparison;
-use reference::player::Language;
 use reference::{hex, kind_cases, match_cases, name_cases, push_cases, replay, script, selftest};
 use std::collections::HashMap;
 use std::io::{self, BufWriter, Read, Write};
 use std::process::ExitCode;
 
-const USAGE: &str = "usage: reference replay | script --seed N --lines N | kinds --seed N --count N | \
+const USAGE: &str = "usage: reference replay | compare --language replay|service --seed N --calls N -- PROGRAM [ARGUMENT]... | script --seed N --lines N | kinds --seed N --count N | \
 matches --seed N --count N | names --seed N --in FILE --out FILE | pushes --seed N --in FILE --out FILE | \
-selftest --seed N --calls N | compare --language replay|service --seed N --calls N -- PROGRAM [ARGUMENT]...";
+selftest --seed N --calls N";
 
 /// What stopped a sub-command.
 enum Stop {
@@ -111,6 +109,7 @@ fn test_itself(options: Options) -> Result<ExitCode, Stop> {
 fn compare(arguments: &[String]) -> Result<ExitCode, Stop> {
     let parting = arguments.iter().position(|argument| argument == "--").ok_or(Stop::Usage)?;
     let options = Options::read(&arguments[..parting], &["--language", "--seed", "--calls"])?;
+    use reference::{compare::Comparison, player::Language};
     let language = match options.0["--language"].as_str() {
         "replay" => Language::Replay,
         "service" => Language::Service,

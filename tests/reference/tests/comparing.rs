@@ -1,8 +1,8 @@
 //! The comparison finds what differs, narrows it, and agrees with itself.
 
 use reference::compare::Comparison;
+use reference::line_runs::Run;
 use reference::player::{Language, Player};
-use reference::runs::Run;
 
 /// A comparison with a shell command as the child.
 fn with(command: &str) -> Comparison {
