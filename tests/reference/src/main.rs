@@ -5,7 +5,9 @@ use std::collections::HashMap;
 use std::io::{self, BufWriter, Read, Write};
 use std::process::ExitCode;
 
-const USAGE: &str = "usage: reference replay | compare --language replay|service --seed N --calls N -- PROGRAM [ARGUMENT]... | script --seed N --lines N | kinds --seed N --count N | \
+const USAGE: &str = "usage: reference replay | \
+compare --language replay|service --seed N --calls N -- PROGRAM [ARGUMENT]... | \
+script --seed N --lines N | kinds --seed N --count N | \
 matches --seed N --count N | names --seed N --in FILE --out FILE | pushes --seed N --in FILE --out FILE | \
 selftest --seed N --calls N";
 
@@ -107,9 +109,9 @@ fn test_itself(options: Options) -> Result<ExitCode, Stop> {
 
 /// Random runs through a child process, the program after `--`, and through this server.
 fn compare(arguments: &[String]) -> Result<ExitCode, Stop> {
+    use reference::{compare::Comparison, player::Language};
     let parting = arguments.iter().position(|argument| argument == "--").ok_or(Stop::Usage)?;
     let options = Options::read(&arguments[..parting], &["--language", "--seed", "--calls"])?;
-    use reference::{compare::Comparison, player::Language};
     let language = match options.0["--language"].as_str() {
         "replay" => Language::Replay,
         "service" => Language::Service,
