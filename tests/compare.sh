@@ -19,9 +19,8 @@ case $#:${1-} in
 esac
 
 run rt check replay
-run rt staticlib weavemitten
+library
 flags='-std=c11 -O2 -Wall -Wextra -Werror -Iinclude'
-library=target/staticlib/libweavemitten.a
 run cc $flags -o target/compare-service tests/compare/service.c "$library"
 run cc $flags -g -fsanitize=address,undefined -fno-sanitize-recover=all -o target/compare-service-checked tests/compare/service.c "$library"
 run cargo build --quiet --release -j1 --manifest-path tests/reference/Cargo.toml
