@@ -5,7 +5,9 @@ use std::collections::HashMap;
 use std::io::{self, BufWriter, Read, Write};
 use std::process::ExitCode;
 
-const USAGE: &str = "usage: reference replay | script --seed N --lines N | kinds --seed N --count N | \
+const USAGE: &str = "usage: reference replay | \
+compare --language replay|service --seed N --calls N -- PROGRAM [ARGUMENT]... | \
+script --seed N --lines N | kinds --seed N --count N | \
 matches --seed N --count N | names --seed N --in FILE --out FILE | pushes --seed N --in FILE --out FILE | \
 selftest --seed N --calls N";
 
@@ -105,12 +107,36 @@ fn test_itself(options: Options) -> Result<ExitCode, Stop> {
     Ok(code)
 }
 
+/// Random runs through a child process, the program after `--`, and through this server.
+fn compare(arguments: &[String]) -> Result<ExitCode, Stop> {
+    use reference::{compare::Comparison, player::Language};
+    let parting = arguments.iter().position(|argument| argument == "--").ok_or(Stop::Usage)?;
+    let options = Options::read(&arguments[..parting], &["--language", "--seed", "--calls"])?;
+    let language = match options.0["--language"].as_str() {
+        "replay" => Language::Replay,
+        "service" => Language::Service,
+        _ => return Err(Stop::Usage),
+    };
+    let child = arguments[parting + 1..].to_vec();
+    if child.is_empty() {
+        return Err(Stop::Usage);
+    }
+    let seed = options.number("--seed")?;
+    let (report, code) = match (Comparison { language, child }).run(seed, options.number("--calls")?)? {
+        Ok(agreement) => (agreement.report(seed).into_bytes(), ExitCode::SUCCESS),
+        Err(difference) => (difference.report(), ExitCode::from(1)),
+    };
+    io::stdout().lock().write_all(&report)?;
+    Ok(code)
+}
+
 fn run(arguments: &[String]) -> Result<ExitCode, Stop> {
     let (command, rest) = arguments.split_first().ok_or(Stop::Usage)?;
     match command.as_str() {
         "replay" if rest.is_empty() => replay_input(),
         "script" => write_script(Options::read(rest, &["--seed", "--lines"])?),
         "selftest" => test_itself(Options::read(rest, &["--seed", "--calls"])?),
+        "compare" => compare(rest),
         "kinds" => kinds(Options::read(rest, &["--seed", "--count"])?),
         "matches" => matches(Options::read(rest, &["--seed", "--count"])?),
         "pushes" => pushes(Options::read(rest, &["--seed", "--in", "--out"])?),

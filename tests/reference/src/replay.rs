@@ -9,7 +9,8 @@ use std::fmt::Write;
 pub const ZONE: &str = "shop.example";
 /// The longest line, its LF aside.
 pub const MAX_LINE: usize = 32_768;
-const UNREADABLE: &str = "?\t19\t-\t-\n";
+/// What an unreadable line prints.
+pub const UNREADABLE: &str = "?\t19\t-\t-\n";
 
 /// What the replay program prints for an input.
 pub fn replay(input: &[u8]) -> String {
@@ -38,6 +39,11 @@ pub fn read_line(line: &[u8]) -> Option<Call> {
     if line.len() > MAX_LINE {
         return None;
     }
+    read_call(line)
+}
+
+/// The call of a line of any length.
+pub fn read_call(line: &[u8]) -> Option<Call> {
     let fields: Vec<&[u8]> = line.split(|&byte| byte == b'\t').collect();
     Some(match fields[..] {
         [b"open", time] => Call::Open { time: number(time)? },
@@ -52,7 +58,7 @@ pub fn read_line(line: &[u8]) -> Option<Call> {
 }
 
 /// A decimal number of at most 64 bits without leading zeros.
-fn number(text: &[u8]) -> Option<u64> {
+pub fn number(text: &[u8]) -> Option<u64> {
     if text.is_empty() || (text.len() > 1 && text[0] == b'0') || !text.iter().all(u8::is_ascii_digit) {
         return None;
     }

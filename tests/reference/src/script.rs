@@ -8,7 +8,7 @@ use crate::replay::{read_line, write_line, MAX_LINE, ZONE};
 use crate::server::Server;
 
 /// Times at which a script may begin.
-const BEGINNINGS: [u64; 6] = [0, 1_000, 1_000, 4_294_940_000, 1 << 63, u64::MAX - 20_000_000];
+pub const BEGINNINGS: [u64; 6] = [0, 1_000, 1_000, 4_294_940_000, 1 << 63, u64::MAX - 20_000_000];
 
 /// A script of so many lines; the last LF is missing for odd seeds.
 pub fn script(seed: u64, lines: usize) -> Vec<u8> {
@@ -34,7 +34,8 @@ pub fn script(seed: u64, lines: usize) -> Vec<u8> {
     text
 }
 
-fn next_line(generator: &mut Generator, server: &Server, left: usize) -> Vec<u8> {
+/// A line, given how many are left.
+pub fn next_line(generator: &mut Generator, server: &Server, left: usize) -> Vec<u8> {
     if left == 6 {
         return format!("tick\t{}", u64::MAX - 1).into_bytes();
     }

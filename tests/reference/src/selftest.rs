@@ -56,7 +56,8 @@ pub fn run(seed: u64, calls: u64) -> Result<Counts, Box<Failure>> {
     Ok(counts)
 }
 
-fn zone_of(seed: u64) -> Vec<u8> {
+/// The zone of a run.
+pub fn zone_of(seed: u64) -> Vec<u8> {
     match seed % 8 {
         0 => vec![0],
         1 => dotted("EXAMPLE"),
