@@ -202,7 +202,7 @@ fn batches(state: &State, cases: &mut Vec<Case>) {
 /// Messages of each kind to the state's first session.
 fn messages(state: &State, cases: &mut Vec<Case>) {
     let held = state.sessions[0].len() as u16;
-    let (asked, rtype) = state.sessions[0].first().cloned().unwrap_or((state.spare[0].name.clone(), ANY));
+    let (asked, rtype) = state.sessions[0].first().cloned().unwrap_or((dotted("till.shop.example"), ANY));
     let mut one = |call: &str, bytes: Vec<u8>| cases.push(state.case(call, vec![message(0, bytes)]));
     one("message: Keepalive", craft::keepalive(900, 1, 1));
     one("message: RECONFIRM", craft::reconfirm(&asked, A, IN, &[192, 0, 2, 1]));
