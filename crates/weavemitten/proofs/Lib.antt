@@ -1,2 +1,4 @@
--- Laws of the C library's answers.
+-- Laws of the C library's answers; the words that are saved; what the calls of the service return.
 pub mod Answers
+pub mod Saving
+pub mod Serving

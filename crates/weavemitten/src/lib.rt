@@ -1,5 +1,15 @@
-// The library for the host's C program: three questions, each answered by a number of 01 that is never 0.
+// The library for the host's C program: the service, and three questions. Each answer is a number of 01 that is never 0.
 // A slice is any bytes: none, with any pointer, or more than a message can have.
+mod calls;
+mod values;
+mod words;
+
+pub use calls::weavemitten_call_batch;
+pub use calls::weavemitten_call_close;
+pub use calls::weavemitten_call_message;
+pub use calls::weavemitten_call_open;
+pub use calls::weavemitten_call_start;
+pub use calls::weavemitten_call_tick;
 use dso::Judgment;
 use dso::ReplyCode;
 use dso::asks_for;

@@ -1,0 +1,142 @@
+-- What a call of the C service returns, from what the server gives and what is kept of it.
+-- Assumes nothing.
+use Prim.Native.Nat.{ℕ, zero, suc, _≤_, _<_}
+use native.Mathlib.Omega.{arith}
+use mathlib.Core.Bool.{Bool, true, false, cond, _&&_}
+use mathlib.Core.List.{List, [], _∷_}
+use mathlib.Core.Path.{_≡_, refl, sym, ap, _∙_}
+use lib.ListN.{getD}
+use lib.Pow.{areBytes}
+use lib.Dec.{ltb}
+use borrow.Author.Tests.{lt-ltb}
+use Rattle.wire.specs.Name.{isName}
+use Rattle.service.specs.State.{State, fresh}
+use Rattle.service.specs.Answer.{refusalNumber, answerNumber}
+use Rattle.service.specs.Call as Call
+use Rattle.service.specs.Call.{Call, outcome}
+use Rattle.service.specs.declared.refusal.Refusal.{Refusal}
+use Rattle.service.specs.declared.refusal.Refusal.the-variants.{NotAName}
+use Rattle.service.proofs.Quiet.{refusal-above}
+use Rattle.server.specs.declared.state.Server.{Server}
+use Rattle.server.specs.declared.answer.Answer.{Answer}
+use Rattle.server.specs.declared.answer.Answer.the-variants.{Done, Opened, Ended, Sent, NotOurs, Aborted, Reconfirm, Refused}
+use Rattle.server.specs.declared.answer.Outcome.{Outcome}
+use Rattle.server.specs.declared.starting.Started.{Started}
+use Rattle.server.specs.declared.starting.Started.the-variants.{Running}
+use Rattle.server.specs.declared.starting.Started.the-variants as Start
+use Rattle.server.specs.Memory.{Memory, memoryOf, withZone, stateOf}
+use Rattle.server.specs.Answers.{Gives, answerOf}
+use Rattle.server.specs.Starting.{Starts}
+use Rattle.weavemitten.specs.Words.{serverOf, Saved}
+use Rattle.weavemitten.specs.Values.{valuesOf}
+use Rattle.weavemitten.specs.Calls.{heldBy, lastAccepted, Keeps, Returns, ReturnsWith, ReturnsOn, Begins}
+
+-- ---- what is kept
+
+module _ (w : List ℕ) (u : Outcome) (r : ℕ) (e : r ≡ answerNumber (answerOf (u .answer))) where
+  pub kept-saved : r ≤ lastAccepted → {w′ : List ℕ} → Saved (u .server) w′ → Keeps w w′ u r
+  kept-saved h x = record { answer = e; held = λ g. x .server; unchanged = λ g. absurd (omega arith) }
+
+  pub kept-same : lastAccepted < r → Keeps w w u r
+  kept-same h = record { answer = e; held = λ g. absurd (omega arith); unchanged = λ g. refl }
+
+-- ---- a number above 5 is a refusal's
+
+data Kind (a : Answer) : Type 0 where
+  accepted : answerNumber (answerOf a) ≤ lastAccepted → Kind a
+  refusing : (x : Refusal) → a ≡ Refused x → Kind a
+
+kind : (a : Answer) → Kind a
+unfolding answerNumber answerOf
+kind Done = accepted (omega arith)
+kind (Opened s) = accepted (omega arith)
+kind (Ended f) = accepted (omega arith)
+kind (Sent n) = accepted (omega arith)
+kind NotOurs = accepted (omega arith)
+kind Aborted = accepted (omega arith)
+kind (Reconfirm p) = accepted (omega arith)
+kind (Refused x) = refusing x refl
+
+above : (a : Answer) (x : Refusal) → a ≡ Refused x → lastAccepted < answerNumber (answerOf a)
+unfolding answerNumber answerOf
+above a x e = rw e (refusal-above x)
+
+-- ---- what is returned
+
+module _ (w w′ : List ℕ) (s : Server) (e : s ≡ serverOf w) (u : Outcome) (r : ℕ) (k : Keeps w w′ u r) where
+  held-next : (m : Memory) (o : List ℕ) (x : Call.Outcome) → Gives s u m o x → heldBy w′ m ≡ x .next
+  held-next m o x g = go (kind (u .answer))
+    where
+      go : Kind (u .answer) → heldBy w′ m ≡ x .next
+      go (accepted h) = rw (k .held (omega (arith, k .answer))) (g .next)
+      go (refusing y f) =
+          rw (k .unchanged (omega (arith, k .answer, above (u .answer) y f)), ← e, ← g .unchanged y f) (g .next)
+
+  returns-of : (m : Memory) (o : List ℕ) (x : Call.Outcome) → Gives s u m o x → Returns w w′ m o r x
+  returns-of m o x g =
+      record {
+        next = held-next m o x g;
+        answer = k .answer ∙ ap answerNumber (g .answer);
+        output = g .output;
+        unchanged = k .unchanged;
+      }
+
+  pub returned : (m m′ : Memory) (o : List ℕ) (call : Call) → Gives s u m′ o (outcome (stateOf s m) call)
+      → Returns w w′ m′ o r (outcome (heldBy w m) call)
+  returned m m′ o call g = rw e at (returns-of m′ o (outcome (stateOf s m) call) g)
+
+  pub returned-with : (m m′ : Memory) (o : List ℕ) (call : Call) → Gives s u m′ o (outcome (stateOf s m) call)
+      → (v : List ℕ) → v ≡ valuesOf (answerOf (u .answer))
+      → ReturnsWith v w w′ m′ o r (outcome (heldBy w m) call)
+  returned-with m m′ o call g v p =
+      record {
+        returns = returned m m′ o call g;
+        values = p ∙ ap valuesOf (rw e at (g .answer));
+      }
+
+-- ---- start
+
+nowhere : Memory
+nowhere = memoryOf [] [] [] [] [] [] []
+
+module _ (zone w before after : List ℕ) (t : Started) (g : Starts zone before after t) where
+  pub begun : (s : Server) → t ≡ Running s → {w′ : List ℕ} → Saved s w′ → Begins zone w w′ before after 1
+  unfolding Call.start
+  begun s f {w′} x = go (isName zone) refl
+    where
+      go : (b : Bool) → isName zone ≡ b → Begins zone w w′ before after 1
+      go true n =
+          record {
+            answer = rw n;
+            begun = λ h m. rw (x .server) (let z = rw (f, n) at (g .state m) in cc);
+            octets = g .octets;
+            unchanged = λ h. absurd (omega arith);
+          }
+      go false n = absurd (let z = rw (f, n) at (g .state nowhere) in let y : _≡_ {A = ℕ} 0 1 = cc in omega arith)
+
+  pub unbegun : (x : Refusal) → t ≡ Start.Refused x → (r : ℕ) → r ≡ refusalNumber x → Begins zone w w before after r
+  unfolding Call.start refusalNumber
+  unbegun x f r p = go (isName zone) refl
+    where
+      go : (b : Bool) → isName zone ≡ b → Begins zone w w before after r
+      go true n = absurd (let z = rw (f, n) at (g .state nowhere) in let y : _≡_ {A = ℕ} 0 1 = cc in omega arith)
+      go false n =
+          let z = rw (f, n) at (g .state nowhere) in
+          let y : x ≡ NotAName = cc in
+          record {
+            answer = rw (n, p, y);
+            begun = λ h. absurd (let q : _≡_ {A = ℕ} 0 1 = cc in omega arith);
+            octets = g .octets;
+            unchanged = λ h. refl;
+          }
+
+-- ---- the bytes of a slice
+
+pub slice-bytes : (l : List ℕ) → ((i : ℕ) → getD l i 0 < 256) → areBytes l ≡ true
+slice-bytes [] h = refl
+slice-bytes (x ∷ l) h = rw (lt-ltb x 256 (h 0), slice-bytes l (λ i. h (suc i)))
+
+-- ---- values
+
+pub valued : {a b : Answer} {v : List ℕ} → v ≡ valuesOf (answerOf b) → a ≡ b → v ≡ valuesOf (answerOf a)
+valued p e = rw e p

@@ -1,0 +1,157 @@
+// The calls of the service for a C host: each reads the server's numbers from the lent words, calls the server, and keeps
+// what it gave. No answer is 0, and the calls take any words and any octets.
+use crate::values::Values;
+use crate::values::put;
+use crate::words::Words;
+use crate::words::load;
+use crate::words::save;
+use server::Outcome;
+use server::Started;
+use server::answer_number;
+use server::batch;
+use server::close;
+use server::message;
+use server::open;
+use server::refusal_number;
+use server::start;
+use server::tick;
+use service::SessionNumber;
+ghost use mathlib.Core.List.{[]};
+ghost use Rattle.service.specs.Call.{Bytes, outcome, opens, closes, receives, edits, ticks};
+ghost use Rattle.server.specs.Memory.{Memory, memoryOf};
+ghost use Rattle.weavemitten.specs.Calls.{heldBy, Keeps, Begins, Returns, ReturnsWith, ReturnsOn};
+
+// 01: answers 1 to 5 take the time, and 10 to 20 change nothing.
+const LAST_ACCEPTED: u32 = 5;
+
+// The lent memory of the zone's name.
+pub type Name = [u8; 255];
+
+// The numbers of an outcome are kept, unless it is a refusal.
+fn keep(words: &mut Words, outcome: Outcome) -> u32
+    ensures { λ r. ⌜ Keeps (now (words .entry)) (now (words .exit)) outcome r ⌝ }
+{
+    let answer = outcome.answer;
+    let number = answer_number(answer);
+    if number <= LAST_ACCEPTED {
+        let server = outcome.server;
+        save(words, server);
+    }
+    number
+}
+
+#[no_mangle]
+pub extern "C" fn weavemitten_call_start(words: &mut Words, octets: &mut Name, zone: &[u8]) -> u32
+    ensures { λ r. ⌜ Begins (now (zone .entry)) (now (words .entry)) (now (words .exit)) (now (octets .entry)) (now (octets .exit)) r ⌝ }
+{
+    match start(zone, octets) {
+        Started::Running(server) => {
+            save(words, server);
+            1
+        }
+        Started::Refused(why) => refusal_number(why),
+    }
+}
+
+#[no_mangle]
+pub extern "C" fn weavemitten_call_open(words: &mut Words, time: u64, values: &mut Values) -> u32
+    ensures { λ r. ⌜ ((m : Memory) → ReturnsWith (now (values .exit)) (now (words .entry)) (now (words .exit)) m [] r (outcome (heldBy (now (words .entry)) m) (opens time))) ⌝ }
+{
+    let outcome = open(load(words), time);
+    let answer = outcome.answer;
+    put(values, answer);
+    keep(words, outcome)
+}
+
+#[no_mangle]
+pub extern "C" fn weavemitten_call_close(words: &mut Words, time: u64, session: u64) -> u32
+    ensures { λ r. ⌜ ((m : Memory) → Returns (now (words .entry)) (now (words .exit)) m [] r (outcome (heldBy (now (words .entry)) m) (closes time session))) ⌝ }
+{
+    let outcome = close(load(words), time, SessionNumber(session));
+    keep(words, outcome)
+}
+
+#[no_mangle]
+pub extern "C" fn weavemitten_call_message(
+    words: &mut Words,
+    zone: &Name,
+    first: &zone::Area,
+    second: &zone::Area,
+    s0: &mut session::Area,
+    s1: &mut session::Area,
+    s2: &mut session::Area,
+    s3: &mut session::Area,
+    time: u64,
+    session: u64,
+    m: &[u8],
+    out: &mut [u8],
+    values: &mut Values,
+) -> u32
+    ensures { λ r. ⌜ ReturnsOn (now (m .entry)) (now (values .exit)) (now (words .entry)) (now (words .exit)) (memoryOf (now (zone .entry)) (now (first .entry)) (now (second .entry)) (now (s0 .exit)) (now (s1 .exit)) (now (s2 .exit)) (now (s3 .exit))) (now (out .exit)) r (λ (bytes : Bytes). outcome (heldBy (now (words .entry)) (memoryOf (now (zone .entry)) (now (first .entry)) (now (second .entry)) (now (s0 .entry)) (now (s1 .entry)) (now (s2 .entry)) (now (s3 .entry)))) (receives time session bytes (now (out .entry)))) ⌝ }
+{
+    let server = load(words);
+    let number = SessionNumber(session);
+    let outcome = message(
+        server,
+        zone,
+        first,
+        second,
+        s0,
+        s1,
+        s2,
+        s3,
+        time,
+        number,
+        m,
+        out,
+    );
+    let answer = outcome.answer;
+    put(values, answer);
+    keep(words, outcome)
+}
+
+#[no_mangle]
+pub extern "C" fn weavemitten_call_batch(
+    words: &mut Words,
+    zone: &Name,
+    first: &mut zone::Area,
+    second: &mut zone::Area,
+    s0: &session::Area,
+    s1: &session::Area,
+    s2: &session::Area,
+    s3: &session::Area,
+    time: u64,
+    bytes: &[u8],
+    out: &mut [u8],
+    values: &mut Values,
+) -> u32
+    ensures { λ r. ⌜ ReturnsOn (now (bytes .entry)) (now (values .exit)) (now (words .entry)) (now (words .exit)) (memoryOf (now (zone .entry)) (now (first .exit)) (now (second .exit)) (now (s0 .entry)) (now (s1 .entry)) (now (s2 .entry)) (now (s3 .entry))) (now (out .exit)) r (λ (lent : Bytes). outcome (heldBy (now (words .entry)) (memoryOf (now (zone .entry)) (now (first .entry)) (now (second .entry)) (now (s0 .entry)) (now (s1 .entry)) (now (s2 .entry)) (now (s3 .entry)))) (edits time lent (now (out .entry)))) ⌝ }
+{
+    let server = load(words);
+    let outcome = batch(
+        server,
+        zone,
+        first,
+        second,
+        s0,
+        s1,
+        s2,
+        s3,
+        time,
+        bytes,
+        out,
+    );
+    let answer = outcome.answer;
+    put(values, answer);
+    keep(words, outcome)
+}
+
+#[no_mangle]
+pub extern "C" fn weavemitten_call_tick(words: &mut Words, time: u64, values: &mut Values) -> u32
+    ensures { λ r. ⌜ ((m : Memory) → ReturnsWith (now (values .exit)) (now (words .entry)) (now (words .exit)) m [] r (outcome (heldBy (now (words .entry)) m) (ticks time))) ⌝ }
+{
+    let outcome = tick(load(words), time);
+    let answer = outcome.answer;
+    put(values, answer);
+    keep(words, outcome)
+}
