@@ -5,7 +5,8 @@ use bench::measure::{check, quantile, running, times, Run};
 use bench::server::Server;
 use std::process::ExitCode;
 
-const USAGE: &str = "usage: bench times table|growth [ROUNDS]   median nanoseconds a call, and of the ratios to the first server
+const USAGE: &str =
+    "usage: bench times table|growth [ROUNDS]   median nanoseconds a call, and of the ratios to the first server
        bench count table|growth SERVER     each case's work CYCLES times after two cycles, for callgrind
        bench one SERVER STATE CALL CYCLES  one case's work, for callgrind
 servers: proved, plain, incremental, reference";

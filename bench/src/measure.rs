@@ -3,7 +3,6 @@
 use crate::cases::{self, Case, Work};
 use crate::service::{Service, Told};
 use std::hint::black_box;
-use std::time::Instant;
 
 /// One case on one server.
 pub trait Run {
@@ -89,13 +88,35 @@ pub fn check(case: &Case, runs: &mut [Box<dyn Run + '_>]) {
     }
 }
 
+/// `struct timespec` of 64-bit Linux.
+#[repr(C)]
+struct Timespec {
+    seconds: i64,
+    nanoseconds: i64,
+}
+
+const CLOCK_THREAD_CPUTIME_ID: i32 = 3;
+
+extern "C" {
+    fn clock_gettime(clock: i32, time: *mut Timespec) -> i32;
+}
+
+/// The processor time of this thread in nanoseconds: what other programs take of the processor is not in it.
+fn processor_time() -> f64 {
+    let mut time = Timespec { seconds: 0, nanoseconds: 0 };
+    // SAFETY: C's clock_gettime writes the struct that it is lent.
+    let status = unsafe { clock_gettime(CLOCK_THREAD_CPUTIME_ID, &mut time) };
+    assert_eq!(status, 0, "the thread has a clock");
+    time.seconds as f64 * 1e9 + time.nanoseconds as f64
+}
+
 /// Nanoseconds a call takes on each server, for each round; the servers take turns in every round.
 pub fn times(case: &Case, runs: &mut [Box<dyn Run + '_>], rounds: usize, sample_ns: f64) -> Vec<Vec<f64>> {
     let calls = case.work.len() as f64;
     let sample = |run: &mut Box<dyn Run + '_>, cycles: u32| {
-        let start = Instant::now();
+        let start = processor_time();
         run.repeat(cycles);
-        start.elapsed().as_nanos() as f64
+        processor_time() - start
     };
     let cycles: Vec<u32> = runs
         .iter_mut()

@@ -107,7 +107,8 @@ impl Service for reference::server::Server {
             values[session] += u64::from(outcome.ended[session]) + outcome.output[session].len() as u64;
         }
         if let call::Answer::Reconfirm(parts) = outcome.answer {
-            values = places_of([parts.name, parts.rtype, parts.class, parts.rdata].map(|part| (part.start, part.length)));
+            values =
+                places_of([parts.name, parts.rtype, parts.class, parts.rdata].map(|part| (part.start, part.length)));
         }
         Told { number: outcome.answer.number(), values }
     }

@@ -30,11 +30,8 @@ fn run<S: Service>(seed: u64, zone: &[u8], calls: usize) -> [usize; 21] {
     let mut generator = Generator::new(seed, zone);
     let mut seen = [0; 21];
     for number in 0..calls {
-        let call = if number % 1000 == 999 {
-            generator.longest(&expected.server)
-        } else {
-            generator.next(&expected.server)
-        };
+        let call =
+            if number % 1000 == 999 { generator.longest(&expected.server) } else { generator.next(&expected.server) };
         let room = if generator.random.once_in(50) { OUTPUT - generator.random.below(3) } else { OUTPUT + 3 };
         let want = expected.call(&call, room);
         let got = tried.call(&call, room);
