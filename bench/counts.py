@@ -66,15 +66,16 @@ def label(function):
 
 
 def print_profiles(folder):
-    for state, call, calls, path in cases(folder, "proved"):
-        if (state, call) in PROFILED:
-            grouped = {}
-            for function, cost in by_function(path).items():
-                grouped[label(function)] = grouped.get(label(function), 0) + cost
-            if sum(grouped.values()) != total(path):
-                sys.exit(f"counts.py: the functions of {path} do not add up to its total")
-            for function, cost in grouped.items():
-                print(f"{call}, {state}\t{function}\t{cost / calls:.1f}")
+    found = {(state, call): (calls, path) for state, call, calls, path in cases(folder, "proved")}
+    for state, call in PROFILED:
+        calls, path = found[(state, call)]
+        grouped = {}
+        for function, cost in by_function(path).items():
+            grouped[label(function)] = grouped.get(label(function), 0) + cost
+        if sum(grouped.values()) != total(path):
+            sys.exit(f"counts.py: the functions of {path} do not add up to its total")
+        for function, cost in grouped.items():
+            print(f"{call}, {state}\t{function}\t{cost / calls:.1f}")
 
 
 def main():

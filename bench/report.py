@@ -53,11 +53,39 @@ def table(times, counts):
 
 
 def rates(times):
-    lines = ["Messages judged in a second, by their bytes alone:", "", "| messages | proved | plain | reference |", "|---|--:|--:|--:|"]
+    lines = ["Messages judged in a second, by their bytes alone:", ""]
+    lines += ["| messages | proved | plain | reference |", "|---|--:|--:|--:|"]
     for (state, call), servers in times.items():
         if state == "no server":
             cells = [f"{1e9 / servers[name][0]:,.0f}" for name in ["proved", "plain", "reference"]]
             lines.append(f"| {call} | " + " | ".join(cells) + " |")
+    return lines
+
+
+def targets(times, counts):
+    """The worst case of each group beside its target."""
+    groups = [
+        ("batch of 1, full, all match", "full, all match", "batch of 1:", 2.0),
+        ("batch of 32, full, all match", "full, all match", "batch of 32:", 2.0),
+        ("batch of 1, full, few match", "full, few match", "batch of 1:", 2.0),
+        ("batch of 32, full, few match", "full, few match", "batch of 32:", 2.0),
+        ("batch of 1, full, names and RDATA alike", "full, all match, alike", "batch of 1:", 2.0),
+        ("batch of 32, full, names and RDATA alike", "full, all match, alike", "batch of 32:", 2.0),
+        ("a message, full", "full, all match", "message:", 1.5),
+        ("a message, typical", "typical", "message:", 1.5),
+        ("a message judged by its bytes", "no server", "judge", 1.5),
+    ]
+    lines = ["| what | target | time: best to worst case | instructions: best to worst case | met |", "|---|--:|--:|--:|---|"]
+    for label, state, prefix, target in groups:
+        cases = [case for case in times if case[0] == state and case[1].startswith(prefix)]
+        if not cases:
+            sys.exit(f"report.py: no case for '{label}'")
+        taken = sorted(times[case]["plain"][1] for case in cases)
+        counted = sorted(counts[case]["proved"][0] / counts[case]["plain"][0] for case in cases)
+        met = "yes" if taken[-1] <= target else "no" if taken[0] > target else "in part"
+        lines.append(
+            f"| {label} | {target:.1f} | {taken[0]:.2f} to {taken[-1]:.2f} | {counted[0]:.2f} to {counted[-1]:.2f} | {met} |"
+        )
     return lines
 
 
@@ -145,6 +173,7 @@ def main():
         sys.exit(f"report.py: no counts of {missing}")
     with open(document, encoding="utf-8") as file:
         text = file.read()
+    text = between(text, "targets", targets(times, counts))
     text = between(text, "table", table(times, counts) + [""] + rates(times))
     text = between(text, "profiles", profiles(sys.argv[4]))
     with open(document, "w", encoding="utf-8") as file:
