@@ -130,7 +130,7 @@ fn typical() -> State {
 
 /// Where long names and RDATA differ.
 #[derive(Clone, Copy, PartialEq, Eq)]
-pub enum Unlike {
+enum Unlike {
     /// In their first octets.
     Early,
     /// In their last octets, so that comparing reads them whole.
@@ -151,10 +151,6 @@ fn long_record(number: usize, name: usize, unlike: Unlike) -> Record {
 }
 
 /// Sessions with so many subscriptions each and so many records of 16 names, all of which match in every session.
-pub fn full_of(sessions: usize, subscriptions: usize, records: usize, unlike: Unlike) -> Vec<Call> {
-    all_match("", sessions, subscriptions, records, unlike).setup()
-}
-
 fn all_match(label: &str, sessions: usize, subscriptions: usize, records: usize, unlike: Unlike) -> State {
     let questions: Vec<(Vec<u8>, u16)> = (0..subscriptions).map(|number| (long_name(number, unlike), ANY)).collect();
     State {
@@ -214,8 +210,8 @@ fn messages(state: &State, cases: &mut Vec<Case>) {
     if held == 16 {
         one("message: SUBSCRIBE, SERVFAIL", craft::subscribe(900, &long_name(200, Unlike::Early), A, IN));
     }
-    let (end, again) = if held == 0 { (900, 900) } else { (1, 1) };
-    let pair = [craft::unsubscribe(end), craft::subscribe(again, &asked, rtype, IN)];
+    let id = if held == 0 { 900 } else { 1 };
+    let pair = [craft::unsubscribe(id), craft::subscribe(id, &asked, rtype, IN)];
     cases.push(state.case("message: UNSUBSCRIBE, SUBSCRIBE", pair.map(|bytes| message(0, bytes)).to_vec()));
 }
 

@@ -7,7 +7,7 @@ use std::process::ExitCode;
 
 const USAGE: &str =
     "usage: bench times table|growth [ROUNDS]   median nanoseconds a call, and of the ratios to the first server
-       bench count table|growth SERVER     each case's work CYCLES times after two cycles, for callgrind
+       bench count table|growth SERVER     each case's work ten times, for callgrind; how many calls that is
        bench one SERVER STATE CALL CYCLES  one case's work, for callgrind
 servers: proved, plain, incremental, reference";
 
