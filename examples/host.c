@@ -1,6 +1,6 @@
 /*
- * A small host of libweavemitten.a: it takes connections on loopback, hands each message to the library, sends what the library
- * wrote, ticks its clocks, and edits the zone as the lines of a file or of standard input say.
+ * A small host of libweavemitten.a: it takes connections on loopback, hands each message to the library, sends what the
+ * library wrote, ticks its clocks, and edits the zone as the lines of a file or of standard input say.
  */
 #include <arpa/inet.h>
 #include <errno.h>
@@ -66,7 +66,8 @@ static void reset(size_t s, const char *why) {
 
 /* The connection is gone, or can't be used any more, and the library is told. */
 static void leave(size_t s, const char *why) {
-    if (weavemitten_close(&server, now(), s) != WEAVEMITTEN_DONE) fprintf(stderr, "host: session %zu was not open\n", s);
+    if (weavemitten_close(&server, now(), s) != WEAVEMITTEN_ANSWER_DONE)
+        fprintf(stderr, "host: session %zu was not open\n", s);
     reset(s, why);
 }
 
@@ -101,12 +102,12 @@ static void send_output(void) {
 static void take_message(size_t s, const uint8_t *message, size_t length) {
     uint32_t answer = weavemitten_message(&server, now(), s, message, length, output, sizeof output, values);
     switch (answer) {
-    case WEAVEMITTEN_DONE: break;
-    case WEAVEMITTEN_SENT: send_output(); break;
-    case WEAVEMITTEN_OTHERS: printf("session %zu: a message that is not DSO's, left alone\n", s); break;
-    case WEAVEMITTEN_ABORTED: reset(s, "aborted"); break;
-    case WEAVEMITTEN_ASKED:
-        printf("session %zu: asks to reconfirm the record at byte %llu of its message\n", s, (unsigned long long)values[0]);
+    case WEAVEMITTEN_ANSWER_DONE: break;
+    case WEAVEMITTEN_ANSWER_SENT: send_output(); break;
+    case WEAVEMITTEN_ANSWER_NOT_OURS: printf("session %zu: a message that is not DSO's, left alone\n", s); break;
+    case WEAVEMITTEN_ANSWER_ABORTED: reset(s, "aborted"); break;
+    case WEAVEMITTEN_ANSWER_RECONFIRM:
+        printf("session %zu: asks to reconfirm the record at byte %u of its message\n", s, (unsigned)values[0]);
         break;
     default: fprintf(stderr, "host: message refused with %u\n", (unsigned)answer); leave(s, "left");
     }
@@ -142,7 +143,7 @@ static void take_connection(int listener) {
     int fd = accept(listener, NULL, NULL);
     if (fd < 0) return;
     uint32_t answer = weavemitten_open(&server, now(), values);
-    if (answer != WEAVEMITTEN_DONE) {
+    if (answer != WEAVEMITTEN_ANSWER_DONE) {
         printf("a connection is refused with %u\n", (unsigned)answer);
         close(fd);
         return;
@@ -154,7 +155,7 @@ static void take_connection(int listener) {
 }
 
 static void tick(void) {
-    if (weavemitten_tick(&server, now(), values) != WEAVEMITTEN_DONE) return;
+    if (weavemitten_tick(&server, now(), values) != WEAVEMITTEN_ANSWER_DONE) return;
     for (size_t s = 0; s < WEAVEMITTEN_SESSIONS; s++)
         if (values[s] == 1 && connections[s].fd >= 0) reset(s, "timed out");
 }
@@ -173,8 +174,9 @@ static struct {
 static void send_batch(void) {
     if (editor.edits == 0) return;
     uint32_t answer = weavemitten_batch(&server, now(), editor.batch, editor.length, output, sizeof output, values);
-    printf("a batch of %zu: %s (%u)\n", editor.edits, answer <= WEAVEMITTEN_SENT ? "done" : "refused", (unsigned)answer);
-    if (answer == WEAVEMITTEN_SENT) send_output();
+    const char *how = answer <= WEAVEMITTEN_ANSWER_SENT ? "done" : "refused";
+    printf("a batch of %zu: %s (%u)\n", editor.edits, how, (unsigned)answer);
+    if (answer == WEAVEMITTEN_ANSWER_SENT) send_output();
     editor.edits = editor.length = 0;
 }
 
@@ -251,22 +253,30 @@ static int listen_on(unsigned long port) {
     return fd;
 }
 
+/* What is waited for: each session's connection, then the listener, then the edits. */
+enum { LISTENER = WEAVEMITTEN_SESSIONS, EDITS, WATCHED };
+
+static void watch(struct pollfd watched[WATCHED], int listener) {
+    for (size_t s = 0; s < WEAVEMITTEN_SESSIONS; s++) {
+        short events = connections[s].unsent > 0 ? POLLIN | POLLOUT : POLLIN;
+        watched[s] = (struct pollfd){.fd = connections[s].fd, .events = events};
+    }
+    watched[LISTENER] = (struct pollfd){.fd = listener, .events = POLLIN};
+    watched[EDITS] = (struct pollfd){.fd = editor.fd, .events = POLLIN};
+}
+
 static void serve(int listener) {
-    struct pollfd watched[WEAVEMITTEN_SESSIONS + 2];
+    struct pollfd watched[WATCHED];
     while (!stopping) {
-        for (size_t s = 0; s < WEAVEMITTEN_SESSIONS; s++) {
-            watched[s].fd = connections[s].fd;
-            watched[s].events = (short)(POLLIN | (connections[s].unsent > 0 ? POLLOUT : 0));
+        watch(watched, listener);
+        if (poll(watched, WATCHED, TICK) > 0) {
+            for (size_t s = 0; s < WEAVEMITTEN_SESSIONS; s++) {
+                if (watched[s].revents & POLLOUT) flush(s);
+                if (connections[s].fd >= 0 && (watched[s].revents & ~POLLOUT)) receive(s);
+            }
+            if (watched[EDITS].revents) take_edits();
+            if (watched[LISTENER].revents) take_connection(listener);
         }
-        watched[WEAVEMITTEN_SESSIONS] = (struct pollfd){.fd = listener, .events = POLLIN};
-        watched[WEAVEMITTEN_SESSIONS + 1] = (struct pollfd){.fd = editor.fd, .events = POLLIN};
-        int ready = poll(watched, WEAVEMITTEN_SESSIONS + 2, TICK);
-        for (size_t s = 0; ready > 0 && s < WEAVEMITTEN_SESSIONS; s++) {
-            if (watched[s].fd >= 0 && (watched[s].revents & POLLOUT)) flush(s);
-            if (connections[s].fd >= 0 && watched[s].fd >= 0 && (watched[s].revents & (POLLIN | POLLHUP | POLLERR))) receive(s);
-        }
-        if (ready > 0 && watched[WEAVEMITTEN_SESSIONS + 1].fd >= 0 && watched[WEAVEMITTEN_SESSIONS + 1].revents) take_edits();
-        if (ready > 0 && watched[WEAVEMITTEN_SESSIONS].revents) take_connection(listener);
         tick();
         fflush(stdout);
     }
@@ -283,7 +293,7 @@ int main(int count, char **words) {
                         "  EDITS  a file of edits; standard input where it is - or missing\n");
         return 2;
     }
-    if (weavemitten_start(&server, zone, name_of_text(words[1], zone)) != WEAVEMITTEN_DONE) {
+    if (weavemitten_start(&server, zone, name_of_text(words[1], zone)) != WEAVEMITTEN_ANSWER_DONE) {
         fprintf(stderr, "host: the zone's name is no name: %s\n", words[1]);
         return 2;
     }
