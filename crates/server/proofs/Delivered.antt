@@ -4,7 +4,7 @@ use native.Mathlib.Omega.{arith}
 use mathlib.Core.Bool.{Bool, true, false, cond, not, _||_}
 use mathlib.Core.List.{List, [], _∷_, _++_}
 use mathlib.Core.Option.{Option, none, some}
-use mathlib.Core.Path.{_≡_, refl, sym, ap, ap₂, _∙_}
+use mathlib.Core.Path.{_≡_, refl, sym, ap, subst, _∙_}
 use lib.ListN.{length, take, drop, set, replicate}
 use lib.Seq.{sets}
 use lib.Dec.{eqb, leb}
@@ -189,15 +189,16 @@ module _ (s : Server) (t i n : ℕ) (o : List ℕ) (k : Checked) where
 
 -- ---- the pieces of the code
 
-pub heard : (s : Server) (t i : ℕ) (zone store area area′ m o p name : List ℕ) (x : Session) (r : Received) → x ≡ sessionAt i s
-    → name ≡ part zone 0 (s .zone)
-    → Does (messageEffect name (recordsOf (s .records) store) t m (sessionOf x area)) r area′ (take (length o - i * outputSize) (drop (i * outputSize) o)) p
+pub heard : (s : Server) (t i at : ℕ) (zone store area area′ m o p name : List ℕ) (x : Session) (r : Received) → x ≡ sessionAt i s
+    → name ≡ part zone 0 (s .zone) → at ≡ i * outputSize
+    → Does (messageEffect name (recordsOf (s .records) store) t m (sessionOf x area)) r area′ (take (length o - at) (drop at o)) p
     → DoesAt (i * outputSize) (messageEffect (take (s .zone) zone) (recordsOf (s .records) store) t m (sessionOf (sessionAt i s) area)) r area′ o
-    (take (i * outputSize) o ++ (p ++ drop (length o - i * outputSize) (drop (i * outputSize) o)))
-heard s t i zone store area area′ m o p name x r e f d =
-    let g : Does (messageEffect (part zone 0 (s .zone)) (recordsOf (s .records) store) t m (sessionOf (sessionAt i s) area)) r area′ (take (length o - i * outputSize) (drop (i * outputSize) o)) p
+    (take at o ++ (p ++ drop (length o - at) (drop at o)))
+heard s t i at zone store area area′ m o p name x r e f q d =
+    let k : Message.Effect = messageEffect (take (s .zone) zone) (recordsOf (s .records) store) t m (sessionOf (sessionAt i s) area) in
+    let g : Does (messageEffect (part zone 0 (s .zone)) (recordsOf (s .records) store) t m (sessionOf (sessionAt i s) area)) r area′ (take (length o - at) (drop at o)) p
     = rw (← e, ← f) d in
-    does-at (i * outputSize) (messageEffect (take (s .zone) zone) (recordsOf (s .records) store) t m (sessionOf (sessionAt i s) area)) r area′ o p g
+    subst (λ (n : ℕ). DoesAt n k r area′ o (take at o ++ (p ++ drop (length o - at) (drop at o)))) q (does-at at k r area′ o p g)
 
 pub alive-at : (s : Server) (i j : ℕ) → i ≡ j → sessionAt i s .live ≡ true → sessionAt j s .live ≡ true
 alive-at s i j e h = ap (λ (k : ℕ). sessionAt k s .live) (sym e) ∙ h

@@ -50,16 +50,19 @@ use Rattle.server.proofs.Outcomes.{gives-passed}
 
 -- ---- one session
 
-pub tell-live : (x : Session) (old new : List Record) (subs o p : List ℕ) (at n : ℕ) → x .live ≡ true
+pub tell-live : (x : Session) (old new : List Record) (subs o p : List ℕ) (at place n : ℕ) → x .live ≡ true → at ≡ place
     → (p
     ≡ sets (take (length o - at) (drop at o)) 0
     (pushOf (changes new (view (subscriptionsOf (x .count) subs) old) (view (subscriptionsOf (x .count) subs) new))))
     × (n ≡ length (pushOf (changes new (view (subscriptionsOf (x .count) subs) old) (view (subscriptionsOf (x .count) subs) new))))
-    → Tells (pushTo old new (slotOf x subs)) at o (take at o ++ (p ++ drop (length o - at) (drop at o))) n
-tell-live x old new subs o p at n h e =
+    → Tells (pushTo old new (slotOf x subs)) place o (take at o ++ (p ++ drop (length o - at) (drop at o))) n
+tell-live x old new subs o p at place n h q e =
     let w : List ℕ = pushOf (changes new (view (subscriptionsOf (x .count) subs) old) (view (subscriptionsOf (x .count) subs) new)) in
     let same : pushTo old new (slotOf x subs) ≡ w = ap (pushTo old new) (slot-live x subs h) in
-    record { written = sets-lent-rest o p w at (e .0) ∙ ap (sets o at) (sym same); counted = e .1 ∙ ap length (sym same) }
+    record {
+      written = sets-lent-rest o p w at (e .0) ∙ ap (sets o at) (sym same) ∙ ap (λ (k : ℕ). sets o k (pushTo old new (slotOf x subs))) q;
+      counted = e .1 ∙ ap length (sym same);
+    }
 
 pub tell-dead : (x : Session) (old new : List Record) (subs o : List ℕ) (at : ℕ) → x .live ≡ false
     → Tells (pushTo old new (slotOf x subs)) at o o 0

@@ -51,3 +51,8 @@ pub record Gives (s : Server) (r : Outcome) (m : Memory) (o : List ℕ) (w : Cal
   pub answer : answerOf (r .answer) ≡ w .answer
   pub output : o ≡ w .output
   pub unchanged : (x : Refusal) → r .answer ≡ Refused x → r .server ≡ s
+
+-- What each call promises: c was called on the numbers s and the memory m, with any arguments, and left the numbers and the
+-- answer of r, the memory `after` and the output.
+abbrev pub Serves : Server → Memory → Call.Call → Outcome → Memory → List ℕ → Type 0
+Serves s m c r after output = Gives s r after output (Call.outcome (stateOf s m) c)

@@ -18,9 +18,9 @@ use crate::ticking::swept;
 use service::Refusal;
 use service::SessionNumber;
 ghost use mathlib.Core.List.{[]};
-ghost use Rattle.service.specs.Call.{openOutcome, outcome, opens, closes, ticks};
+ghost use Rattle.service.specs.Call.{openOutcome, opens, closes, ticks};
 ghost use Rattle.server.specs.Memory.{Memory, stateOf};
-ghost use Rattle.server.specs.Answers.{Gives};
+ghost use Rattle.server.specs.Answers.{Gives, Serves};
 
 // After the checks.
 fn open_lowest(server: Server, time: u64) -> Outcome
@@ -36,7 +36,7 @@ fn open_lowest(server: Server, time: u64) -> Outcome
 }
 
 pub fn open(server: Server, time: u64) -> Outcome
-    ensures { λ r. ⌜ ((m : Memory) → Gives server r m [] (outcome (stateOf server m) (opens time))) ⌝ }
+    ensures { λ r. ⌜ ((m : Memory) → Serves server m (opens time) r m []) ⌝ }
 {
     let b = Brought {
         output: Given::Absent,
@@ -51,7 +51,7 @@ pub fn open(server: Server, time: u64) -> Outcome
 }
 
 pub fn close(server: Server, time: u64, session: SessionNumber) -> Outcome
-    ensures { λ r. ⌜ ((m : Memory) → Gives server r m [] (outcome (stateOf server m) (closes time (session .0)))) ⌝ }
+    ensures { λ r. ⌜ ((m : Memory) → Serves server m (closes time (session .0)) r m []) ⌝ }
 {
     let i = session.0;
     let b = Brought {
@@ -70,7 +70,7 @@ pub fn close(server: Server, time: u64, session: SessionNumber) -> Outcome
 }
 
 pub fn tick(server: Server, time: u64) -> Outcome
-    ensures { λ r. ⌜ ((m : Memory) → Gives server r m [] (outcome (stateOf server m) (ticks time))) ⌝ }
+    ensures { λ r. ⌜ ((m : Memory) → Serves server m (ticks time) r m []) ⌝ }
 {
     let b = Brought {
         output: Given::Absent,

@@ -1,4 +1,5 @@
 // The checks that calls share, in 01's order: 12, 11, 10, 18.
+use crate::output::LEAST_OUTPUT;
 use crate::places::is_free;
 use crate::state::Server;
 use service::Refusal;
@@ -6,9 +7,6 @@ ghost use mathlib.Core.Path.{_≡_};
 ghost use Rattle.service.specs.Checks.{isShort, isLong, isAbsent, refusalOf};
 ghost use Rattle.server.specs.Memory.{Memory, stateOf};
 ghost use Rattle.server.specs.Checks.{givenOf, broughtOf, refusedBy, firstOf};
-
-// 01: "The caller lends four shelves of 16,384 bytes each, one slice of 65,536".
-const LEAST_OUTPUT: u64 = 65536;
 
 // 01: "Message: 65,535 bytes."
 const MAX_MESSAGE: u64 = 65535;

@@ -7,6 +7,7 @@ use crate::checks::Brought;
 use crate::checks::Checked;
 use crate::checks::Given;
 use crate::checks::check;
+use crate::output::output_at;
 use crate::starting::Name;
 use crate::state::Server;
 use crate::state::Session;
@@ -26,15 +27,12 @@ ghost use Rattle.zone.specs.Table.{recordsOf};
 ghost use Rattle.service.specs.State.{maxSessions};
 ghost use Rattle.service.specs.Checks.{outputSize, leastOutput};
 ghost use Rattle.service.specs.Message.{messageEffect};
-ghost use Rattle.server.specs.Memory.{sessionOf, memoryOf, stateOf};
+ghost use Rattle.server.specs.Memory.{sessionOf, memoryOf};
 ghost use Rattle.server.specs.Numbers.{sessionAt};
 ghost use Rattle.server.specs.Delivery.{DoesAt, Turns, Delivers, countAt, answerTo, sessionAfter, concludedOf};
 ghost use lib.Pow.{areBytes};
-ghost use Rattle.service.specs.Call.{outcome, receives};
-ghost use Rattle.server.specs.Answers.{Gives};
-
-// 01: "session s writes from s x 16,384".
-const OUTPUT: usize = 16384;
+ghost use Rattle.service.specs.Call.{receives};
+ghost use Rattle.server.specs.Answers.{Serves};
 
 fn only(here: bool, n: usize) -> usize
     ensures { λ r. ⌜ r ≡ cond here n 0 ⌝ }
@@ -113,7 +111,7 @@ fn hear(
     let x = session_at(server, i);
     let clocks = x.clocks;
     let name = part(zone, 0, server.zone);
-    let at = (i as usize) * OUTPUT;
+    let at = output_at(i);
     receive(
         name,
         store,
@@ -189,7 +187,8 @@ pub fn message(
     m: &[u8],
     out: &mut [u8],
 ) -> Outcome
-    ensures { λ r. ⌜ ((small : areBytes (now (m .entry)) ≡ true) → Gives server r (memoryOf (now (zone .entry)) (now (first .entry)) (now (second .entry)) (now (s0 .exit)) (now (s1 .exit)) (now (s2 .exit)) (now (s3 .exit))) (now (out .exit)) (outcome (stateOf server (memoryOf (now (zone .entry)) (now (first .entry)) (now (second .entry)) (now (s0 .entry)) (now (s1 .entry)) (now (s2 .entry)) (now (s3 .entry)))) (receives time (session .0) (record { list = now (m .entry); small = small }) (now (out .entry))))) ⌝ }
+    ensures { λ r. ⌜ ((small : areBytes (now (m .entry)) ≡ true) → Serves server (memoryOf (now (zone .entry)) (now (first .entry)) (now (second .entry)) (now (s0 .entry)) (now (s1 .entry)) (now (s2 .entry)) (now (s3 .entry))) (receives time (session .0) (record { list = now (m .entry); small = small }) (now (out .entry))) r (memoryOf (now (zone .entry)) (now (first .entry)) (now (second .entry)) (now (s0 .exit)) (now (s1 .exit)) (now (s2 .exit)) (now (s3 .exit))) (now (out .exit))) ⌝ }
+    ensures { λ r. ⌜ areBytes (now (m .entry)) ≡ true ⌝ }
 {
     let i = session.0;
     let b = Brought {

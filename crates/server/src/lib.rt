@@ -4,6 +4,7 @@ mod calls;
 mod checks;
 mod delivery;
 mod number;
+mod output;
 mod places;
 mod pushing;
 mod starting;

@@ -7,6 +7,7 @@ use crate::checks::Brought;
 use crate::checks::Checked;
 use crate::checks::Given;
 use crate::checks::check;
+use crate::output::output_at;
 use crate::starting::Name;
 use crate::state::Server;
 use crate::state::Session;
@@ -14,36 +15,35 @@ use notify::write_push;
 use service::Refusal;
 use table::part;
 use zone::BatchResult;
-ghost use Prim.Native.Nat.{_≤_};
+ghost use Prim.Native.Nat.{_*_, _≤_, _<_};
 ghost use mathlib.Core.Path.{_≡_};
 ghost use lib.ListN.{length};
 ghost use Rattle.zone.specs.Table.{recordsOf};
-ghost use Rattle.service.specs.Call.{pushTo, outcome, edits};
-ghost use Rattle.service.specs.Checks.{leastOutput};
-ghost use Rattle.server.specs.Memory.{slotOf, memoryOf, stateOf};
-ghost use Rattle.server.specs.Answers.{answerOf, countsOf, Gives};
+ghost use Rattle.service.specs.Call.{pushTo, edits};
+ghost use Rattle.service.specs.State.{maxSessions};
+ghost use Rattle.service.specs.Checks.{outputSize, leastOutput};
+ghost use Rattle.server.specs.Memory.{slotOf, memoryOf};
+ghost use Rattle.server.specs.Answers.{answerOf, countsOf, Serves};
 ghost use Rattle.server.specs.Pushing.{Tells, TellsAll, toldOf, committedOf, Announces, slotsAt, Edits};
 ghost use mathlib.Core.Bool.{true};
 ghost use lib.Pow.{areBytes};
 
-// 01: "session s writes from s x 16,384".
-const OUTPUT: usize = 16384;
-
-// The PUSH of one session, from a place of the output on; how many bytes it has.
+// The PUSH of session i, in its part of the output; how many bytes it has.
 fn tell(
     x: Session,
+    i: u64,
     old: &zone::Area,
     olds: usize,
     new: &zone::Area,
     news: usize,
     subs: &session::Area,
     out: &mut [u8],
-    at: usize,
 ) -> usize
-    requires { ⌜ at ≤ length (now out) ⌝ }
-    ensures { λ r. ⌜ Tells (pushTo (recordsOf olds (now (old .entry))) (recordsOf news (now (new .entry))) (slotOf x (now (subs .entry)))) at (now (out .entry)) (now (out .exit)) r ⌝ }
+    requires { ⌜ (i < maxSessions) × (leastOutput ≤ length (now out)) ⌝ }
+    ensures { λ r. ⌜ Tells (pushTo (recordsOf olds (now (old .entry))) (recordsOf news (now (new .entry))) (slotOf x (now (subs .entry)))) (i * outputSize) (now (out .entry)) (now (out .exit)) r ⌝ }
 {
     if x.live {
+        let at = output_at(i);
         return write_push(old, olds, new, news, subs, x.count, &mut out[at..]);
     }
     0
@@ -69,10 +69,10 @@ fn tell_all(
     let x2 = server.s2;
     let x3 = server.s3;
     Counts {
-        c0: tell(x0, old, server.records, new, news, s0, out, 0),
-        c1: tell(x1, old, server.records, new, news, s1, out, OUTPUT),
-        c2: tell(x2, old, server.records, new, news, s2, out, 2 * OUTPUT),
-        c3: tell(x3, old, server.records, new, news, s3, out, 3 * OUTPUT),
+        c0: tell(x0, 0, old, server.records, new, news, s0, out),
+        c1: tell(x1, 1, old, server.records, new, news, s1, out),
+        c2: tell(x2, 2, old, server.records, new, news, s2, out),
+        c3: tell(x3, 3, old, server.records, new, news, s3, out),
     }
 }
 
@@ -161,15 +161,16 @@ pub fn batch(
     s1: &session::Area,
     s2: &session::Area,
     s3: &session::Area,
-    time: u64,
+    t: u64,
     bytes: &[u8],
     out: &mut [u8],
 ) -> Outcome
-    ensures { λ r. ⌜ ((small : areBytes (now (bytes .entry)) ≡ true) → Gives server r (memoryOf (now (zone .entry)) (now (first .exit)) (now (second .exit)) (now (s0 .entry)) (now (s1 .entry)) (now (s2 .entry)) (now (s3 .entry))) (now (out .exit)) (outcome (stateOf server (memoryOf (now (zone .entry)) (now (first .entry)) (now (second .entry)) (now (s0 .entry)) (now (s1 .entry)) (now (s2 .entry)) (now (s3 .entry)))) (edits time (record { list = now (bytes .entry); small = small }) (now (out .entry))))) ⌝ }
+    ensures { λ r. ⌜ ((small : areBytes (now (bytes .entry)) ≡ true) → Serves server (memoryOf (now (zone .entry)) (now (first .entry)) (now (second .entry)) (now (s0 .entry)) (now (s1 .entry)) (now (s2 .entry)) (now (s3 .entry))) (edits t (record { list = now (bytes .entry); small = small }) (now (out .entry))) r (memoryOf (now (zone .entry)) (now (first .exit)) (now (second .exit)) (now (s0 .entry)) (now (s1 .entry)) (now (s2 .entry)) (now (s3 .entry))) (now (out .exit))) ⌝ }
+    ensures { λ r. ⌜ areBytes (now (bytes .entry)) ≡ true ⌝ }
 {
     let b = Brought {
         output: Given::Is(out.len() as u64),
-        time,
+        time: t,
         session: Given::Absent,
         message: Given::Absent,
     };
@@ -177,33 +178,9 @@ pub fn batch(
         Checked::Refuse(why) => refused(server, why),
         Checked::Pass => {
             if server.second {
-                edit(
-                    server,
-                    zone,
-                    second,
-                    first,
-                    s0,
-                    s1,
-                    s2,
-                    s3,
-                    time,
-                    bytes,
-                    out,
-                )
+                edit(server, zone, second, first, s0, s1, s2, s3, t, bytes, out)
             } else {
-                edit(
-                    server,
-                    zone,
-                    first,
-                    second,
-                    s0,
-                    s1,
-                    s2,
-                    s3,
-                    time,
-                    bytes,
-                    out,
-                )
+                edit(server, zone, first, second, s0, s1, s2, s3, t, bytes, out)
             }
         }
     }
