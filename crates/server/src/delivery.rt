@@ -111,7 +111,7 @@ fn hear(
     let x = session_at(server, i);
     let clocks = x.clocks;
     let name = part(zone, 0, server.zone);
-    let at = output_at(i);
+    let at = output_at(i as u32);
     receive(
         name,
         store,

@@ -31,7 +31,7 @@ ghost use lib.Pow.{areBytes};
 // The PUSH of session i, in its part of the output; how many bytes it has.
 fn tell(
     x: Session,
-    i: u64,
+    i: u32,
     old: &zone::Area,
     olds: usize,
     new: &zone::Area,

@@ -1,2 +1,3 @@
 -- Demand 3 for the code.
 pub mod Theorem
+pub mod Played

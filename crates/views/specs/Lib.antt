@@ -1,2 +1,3 @@
--- Runs of the code, and what demand 3 says of them.
+-- Runs of the code, what demand 3 says of them, and calls in code.
 pub mod Runs
+pub mod Plays

@@ -1,1 +1,96 @@
-// Demand 3 stated about the calls' own promises; no code.
+// Demand 3 stated about the calls' own promises; and calls in code, one after the other, of which it is proved.
+use server::Answer;
+use server::Outcome;
+use server::Server;
+use server::Started;
+use server::batch;
+use server::message;
+use server::open;
+use server::start;
+use service::Refusal;
+use service::SessionNumber;
+ghost use Rattle.server.specs.Memory.{memoryOf};
+ghost use Rattle.views.specs.Plays.{Continues, Plays};
+
+// What an open and a message answered, and what the batch after them gave.
+pub struct Ran {
+    pub opened: Answer,
+    pub heard: Answer,
+    pub told: Outcome,
+}
+
+pub enum Played {
+    // The zone's name is no name.
+    Unnamed(Refusal),
+    Run(Ran),
+}
+
+// After any run: an open, a message to session 0, and a batch.
+pub fn proceed(
+    server: Server,
+    zone: &[u8; 255],
+    first: &mut zone::Area,
+    second: &mut zone::Area,
+    s0: &mut session::Area,
+    s1: &mut session::Area,
+    s2: &mut session::Area,
+    s3: &mut session::Area,
+    t: u64,
+    m: &[u8],
+    bytes: &[u8],
+    reply: &mut [u8],
+    out: &mut [u8],
+) -> Ran
+    ensures { λ r. ⌜ Continues server (memoryOf (now (zone .entry)) (now (first .entry)) (now (second .entry)) (now (s0 .entry)) (now (s1 .entry)) (now (s2 .entry)) (now (s3 .entry))) t (now (m .entry)) (now (bytes .entry)) (now (reply .entry)) (now (reply .exit)) (now (out .entry)) (now (out .exit)) r (memoryOf (now (zone .entry)) (now (first .exit)) (now (second .exit)) (now (s0 .exit)) (now (s1 .exit)) (now (s2 .exit)) (now (s3 .exit))) ⌝ }
+{
+    let i = SessionNumber(0);
+    let a = open(server, t);
+    let x = a.server;
+    let b = message(x, zone, first, second, s0, s1, s2, s3, t, i, m, reply);
+    let y = b.server;
+    let opened = a.answer;
+    let heard = b.answer;
+    Ran {
+        opened,
+        heard,
+        told: batch(y, zone, first, second, s0, s1, s2, s3, t, bytes, out),
+    }
+}
+
+// The same on a fresh server, from its start.
+pub fn play(
+    name: &[u8],
+    zone: &mut [u8; 255],
+    first: &mut zone::Area,
+    second: &mut zone::Area,
+    s0: &mut session::Area,
+    s1: &mut session::Area,
+    s2: &mut session::Area,
+    s3: &mut session::Area,
+    t: u64,
+    m: &[u8],
+    bytes: &[u8],
+    reply: &mut [u8],
+    out: &mut [u8],
+) -> Played
+    ensures { λ r. ⌜ Plays (now (name .entry)) t (now (m .entry)) (now (bytes .entry)) (now (reply .entry)) (now (reply .exit)) (now (out .entry)) (now (out .exit)) r (memoryOf (now (zone .exit)) (now (first .exit)) (now (second .exit)) (now (s0 .exit)) (now (s1 .exit)) (now (s2 .exit)) (now (s3 .exit))) ⌝ }
+{
+    match start(name, zone) {
+        Started::Refused(why) => Played::Unnamed(why),
+        Started::Running(s) => Played::Run(proceed(
+            s,
+            zone,
+            first,
+            second,
+            s0,
+            s1,
+            s2,
+            s3,
+            t,
+            m,
+            bytes,
+            reply,
+            out,
+        )),
+    }
+}
