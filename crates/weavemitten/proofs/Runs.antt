@@ -4,10 +4,10 @@ use Prim.Native.Nat.{ℕ, _<_}
 use native.Mathlib.Omega.{arith}
 use mathlib.Core.Bool.{Bool, true, false, cond}
 use mathlib.Core.List.{List}
-use mathlib.Core.Path.{_≡_, refl, sym, ap, _∙_}
+use mathlib.Core.Path.{_≡_, refl}
 use borrow.Author.Tests.{eqb-false}
 use Rattle.wire.specs.Name.{isName}
-use Rattle.service.specs.State.{State, fresh}
+use Rattle.service.specs.State.{State}
 use Rattle.service.specs.Call as Call
 use Rattle.service.specs.Call.{Call, outcome}
 use Rattle.service.specs.Observer.{Observer, observe}
