@@ -138,9 +138,10 @@ static inline uint32_t weavemitten_start(struct weavemitten_server *server, cons
 
 /*
  * The calls below that have values fill all eight of them, whatever they answer. After open answered 1, values[0] is the
- * session. After 2, values[s] is how many bytes stand at the start of session s's part of the output (0: none). After tick
- * answered 1, values[s] is 1 where session s was aborted. After 5, values has start and length of the name, of the type, of
- * the class and of the RDATA in the message. All others are 0.
+ * session. After 2, values[s] is how many bytes stand at the start of session s's part of the output (0: none); on a server
+ * that nobody else has written they are at most WEAVEMITTEN_OUTPUT. After tick answered 1, values[s] is 1 where session s was
+ * aborted. After 5, values has start and length of the name, of the type, of the class and of the RDATA in the message. All
+ * others are 0.
  */
 
 /* Opens a session at the lowest free number. Answers 1, 11 or 13. */

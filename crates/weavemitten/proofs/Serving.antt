@@ -1,16 +1,11 @@
 -- What a call of the C service returns, from what the server gives and what is kept of it.
 -- Assumes nothing.
-use Prim.Native.Nat.{ℕ, zero, suc, _≤_, _<_}
+use Prim.Native.Nat.{ℕ, _≤_, _<_}
 use native.Mathlib.Omega.{arith}
-use mathlib.Core.Bool.{Bool, true, false, cond, _&&_}
-use mathlib.Core.List.{List, [], _∷_}
-use mathlib.Core.Path.{_≡_, refl, sym, ap, _∙_}
-use lib.ListN.{getD}
-use lib.Pow.{areBytes}
-use lib.Dec.{ltb}
-use borrow.Author.Tests.{lt-ltb}
+use mathlib.Core.Bool.{Bool, true, false}
+use mathlib.Core.List.{List, []}
+use mathlib.Core.Path.{_≡_, refl, ap, _∙_}
 use Rattle.wire.specs.Name.{isName}
-use Rattle.service.specs.State.{State, fresh}
 use Rattle.service.specs.Answer.{refusalNumber, answerNumber}
 use Rattle.service.specs.Call as Call
 use Rattle.service.specs.Call.{Call, outcome}
@@ -24,12 +19,12 @@ use Rattle.server.specs.declared.answer.Outcome.{Outcome}
 use Rattle.server.specs.declared.starting.Started.{Started}
 use Rattle.server.specs.declared.starting.Started.the-variants.{Running}
 use Rattle.server.specs.declared.starting.Started.the-variants as Start
-use Rattle.server.specs.Memory.{Memory, memoryOf, withZone, stateOf}
+use Rattle.server.specs.Memory.{Memory, memoryOf, stateOf}
 use Rattle.server.specs.Answers.{Gives, answerOf}
 use Rattle.server.specs.Starting.{Starts}
 use Rattle.weavemitten.specs.Words.{serverOf, Saved}
 use Rattle.weavemitten.specs.Values.{valuesOf}
-use Rattle.weavemitten.specs.Calls.{heldBy, lastAccepted, Keeps, Returns, ReturnsWith, ReturnsOn, Begins}
+use Rattle.weavemitten.specs.Calls.{heldBy, lastAccepted, Keeps, Returns, ReturnsWith, Begins}
 
 -- ---- what is kept
 
@@ -129,12 +124,6 @@ module _ (zone w before after : List ℕ) (t : Started) (g : Starts zone before 
             octets = g .octets;
             unchanged = λ h. refl;
           }
-
--- ---- the bytes of a slice
-
-pub slice-bytes : (l : List ℕ) → ((i : ℕ) → getD l i 0 < 256) → areBytes l ≡ true
-slice-bytes [] h = refl
-slice-bytes (x ∷ l) h = rw (lt-ltb x 256 (h 0), slice-bytes l (λ i. h (suc i)))
 
 -- ---- values
 

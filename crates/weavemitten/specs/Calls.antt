@@ -1,7 +1,7 @@
 -- What each call of the C service has to give: the server's promises, said of the lent words.
 use Prim.Native.Nat.{ℕ, _≤_, _<_}
 use mathlib.Core.Bool.{true, cond}
-use mathlib.Core.List.{List, []}
+use mathlib.Core.List.{List}
 use mathlib.Core.Path.{_≡_}
 use lib.Pow.{areBytes}
 use lib.Seq.{sets}
@@ -9,7 +9,7 @@ use Rattle.wire.specs.Name.{isName}
 use Rattle.service.specs.State.{State, fresh}
 use Rattle.service.specs.Answer.{answerNumber}
 use Rattle.service.specs.Call as Call
-use Rattle.server.specs.Memory.{Memory, memoryOf, withZone, stateOf}
+use Rattle.server.specs.Memory.{Memory, withZone, stateOf}
 use Rattle.server.specs.Answers.{answerOf}
 use Rattle.server.specs.declared.answer.Outcome.{Outcome}
 use Rattle.weavemitten.specs.Words.{serverOf}

@@ -3,3 +3,4 @@ pub mod Questions
 pub mod Words
 pub mod Values
 pub mod Calls
+pub mod Runs

@@ -1,6 +1,5 @@
 -- The eight values that go with an answer.
 use Prim.Native.Nat.{ℕ}
-use mathlib.Core.Bool.{Bool}
 use mathlib.Core.List.{List, [], _∷_, _++_, map}
 use lib.ListN.{take, replicate}
 use Rattle.dso.specs.declared.judgment.RecordPlaces.{RecordPlaces}

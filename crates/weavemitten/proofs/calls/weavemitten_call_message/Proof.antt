@@ -1,8 +1,7 @@
 -- `weavemitten::calls::weavemitten_call_message` meets its contract: what the server gives is kept. Assumes nothing.
-use native.Mathlib.Omega.{arith}
 use Rattle.service.specs.Call.{receives}
 use Rattle.server.specs.Memory.{memoryOf}
-use Rattle.weavemitten.proofs.Serving.{slice-bytes, returned-with}
+use Rattle.weavemitten.proofs.Serving.{returned-with}
 use borrow.Author.Needs.{needs}
 use Rattle.weavemitten.proofs.calls.weavemitten_call_message.Statement.{statement}
 use Rattle.weavemitten.proofs.calls.weavemitten_call_message.Tie as tie
@@ -10,12 +9,12 @@ use Rattle.weavemitten.proofs.calls.weavemitten_call_message.Tie as tie
 returns : tie.Need-returns
 returns c =
     let a = c .before .before .before .before .before .before .before .before .before .before .before .before .before .before .before .before .args in
-    let small = slice-bytes (a .m .now) (λ i. omega (arith, c .before .before .before .before .before .before .before .before .before .before .before .before .before .before .before .shared-slice-known .given i)) in
+    let g = c .before .before .before .before .before .before .message .ensures in
     let m = memoryOf (a .zone .now) (a .first .now) (a .second .now) (a .s0 .now) (a .s1 .now) (a .s2 .now) (a .s3 .now) in
     record {
-      small = small;
+      small = g .1;
       returns = returned-with (a .words .now) _ _ (c .before .before .before .before .before .before .before .before .before .before .before .before .load .ensures) _ _ (c .keep .ensures) m _ _
-          (receives (a .time) (a .session) (record { list = a .m .now; small = small }) (a .out .now)) (c .before .before .before .before .before .before .message .ensures small) _ (c .before .before .put .ensures);
+          (receives (a .time) (a .session) (record { list = a .m .now; small = g .1 }) (a .out .now)) (g .0 (g .1)) _ (c .before .before .put .ensures);
     }
 
 pub weavemitten-call-message-spec : {M : Type 1} → statement M
