@@ -1,3 +1,2 @@
 -- Demand 3 for the code.
 pub mod Theorem
-pub mod Played

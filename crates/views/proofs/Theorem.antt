@@ -6,7 +6,7 @@ use mathlib.Core.Path.{_≡_, refl, sym, ap, subst, _∙_}
 use Prim.Native.Nat.{ℕ}
 use lib.ListN.{getD}
 use Rattle.service.specs.State.{free}
-use Rattle.service.specs.Call.{Call}
+use Rattle.service.specs.Call.{Call, outcome}
 use Rattle.service.specs.Reader.{bytesFor}
 use Rattle.service.specs.Observer.{Client, Observer, observe}
 use Rattle.service.specs.Demand as Demand
@@ -14,7 +14,7 @@ use Rattle.service.specs.Demand.{Run, stepped, Faithful, isBatch, isDone, Pushe
 use Rattle.service.proofs.Related.{Related}
 use Rattle.service.proofs.Theorem.{begun-related, step-kept, holds-of}
 use Rattle.server.specs.Memory.{Memory, stateOf}
-use Rattle.server.specs.Answers.{answerOf}
+use Rattle.server.specs.Answers.{answerOf, Gives}
 use Rattle.server.specs.declared.answer.Outcome.{Outcome}
 use Rattle.views.specs.Runs.{Held, Step, Runs, begun, next, Holds}
 

@@ -1,3 +1,2 @@
--- Runs of the code, what demand 3 says of them, and calls in code.
+-- Runs of the code, and what demand 3 says of them.
 pub mod Runs
-pub mod Plays

@@ -6,12 +6,12 @@ use mathlib.Core.Option.{none, some}
 use mathlib.Core.Path.{_≡_}
 use lib.ListN.{getD}
 use Rattle.service.specs.State.{free}
-use Rattle.service.specs.Call.{Call}
+use Rattle.service.specs.Call.{Call, outcome}
 use Rattle.service.specs.Reader.{bytesFor}
 use Rattle.service.specs.Observer.{Client, Observer, watching, observe}
 use Rattle.service.specs.Demand.{Faithful, isBatch, isDone, Pushed, isOpen, isLiving}
 use Rattle.server.specs.Memory.{Memory, stateOf}
-use Rattle.server.specs.Answers.{answerOf, Serves}
+use Rattle.server.specs.Answers.{answerOf, Gives}
 use Rattle.server.specs.Starting.{Starts}
 use Rattle.server.specs.declared.state.Server.{Server}
 use Rattle.server.specs.declared.answer.Outcome.{Outcome}
@@ -22,10 +22,10 @@ pub record Held : Type 0 where
   pub server : Server
   pub memory : Memory
 
--- A step: the numbers and the answer r, the octets and the output slice that a call left. It is what each call's `ensures`
--- cites.
+-- A step: the numbers and the answer r, the octets and the output slice that a call left. It is exactly what the call's
+-- `ensures` says.
 abbrev pub Step : Held → Call → Outcome → Memory → List ℕ → Type 0
-Step h c r after output = Serves (h .server) (h .memory) c r after output
+Step h c r after output = Gives (h .server) r after output (outcome (stateOf (h .server) (h .memory)) c)
 
 -- What a run from a start answered 1 has come to, and the observer beside it: each call gets what the last left.
 pub data Runs (zone : List ℕ) : Held → Observer → Type 0 where
