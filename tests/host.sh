@@ -2,14 +2,14 @@
 # The example host, with warnings as errors and then with sanitizers, against example clients on loopback.
 set -eu
 cd "$(dirname "$0")/.."
-run() { printf '+ %s\n' "$*"; "$@"; }
+. tests/lib/library.sh
 build() { # NAME FLAGS...
     name=$1
     shift
     run cc -std=c11 -D_POSIX_C_SOURCE=200809L -Wall -Wextra -Werror "$@" -Iinclude -Iexamples -o "target/$name" \
-        examples/host.c examples/edit_line.c target/staticlib/libweavemitten.a
+        examples/host.c examples/edit_line.c "$library"
 }
-run rt staticlib weavemitten
+library
 build host -O2
 build host-sanitized -g -fsanitize=address,undefined -fno-sanitize-recover=all
 run python3 tests/host/check.py target/host examples/client.py 1

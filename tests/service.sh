@@ -5,7 +5,7 @@
 set -eu
 cd "$(dirname "$0")/.."
 [ $# -gt 0 ] || set -- 1
-run() { printf '+ %s\n' "$*"; "$@"; }
+. tests/lib/library.sh
 
 # A constant of a crate's source, with those that its value names.
 value() (
@@ -38,7 +38,7 @@ done
     { echo "service: the header's answers are not the source's" >&2; exit 1; }
 echo "service: $(echo "$numbers" | wc -l) answer numbers as in the source"
 
-run rt staticlib weavemitten
+library
 if command -v c++ >/dev/null; then
     run c++ -std=c++11 -Wall -Wextra -Werror -pedantic -fsyntax-only -x c++ include/weavemitten.h
 else
@@ -48,7 +48,7 @@ build() {
     out=$1 source=$2
     shift 2
     # shellcheck disable=SC2086
-    run cc -std=c11 -O1 -g -Wall -Wextra -Werror $sizes "$@" -Iinclude -o "target/$out" "tests/service/$source.c" target/staticlib/libweavemitten.a
+    run cc -std=c11 -O1 -g -Wall -Wextra -Werror $sizes "$@" -Iinclude -o "target/$out" "tests/service/$source.c" "$library"
 }
 for source in service corrupt; do
     build "$source-plain" "$source"

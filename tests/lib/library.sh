@@ -1,0 +1,12 @@
+# For tests that link the C library: printing what is run, and the library itself, proved and built anew only where a source is
+# newer than it.
+run() { printf '+ %s\n' "$*"; "$@"; }
+
+library=target/staticlib/libweavemitten.a
+library() {
+    if [ -e "$library" ] && [ -z "$(find crates crates.txt -newer "$library" | head -n 1)" ]; then
+        echo "$library is newer than every source"
+    else
+        run rt staticlib weavemitten
+    fi
+}
