@@ -1,12 +1,16 @@
-// The lines of the replay program (01, "The replay program"): reading one, and writing one.
+// The lines of the replay program (01, "The replay program"): the input cut into lines, reading one, and writing one.
 mod number;
 mod reader;
+mod stream;
 mod verb;
 mod writer;
 
 pub use reader::Bytes;
 pub use reader::Command;
 pub use reader::read_line;
+pub use stream::Cut;
+pub use stream::Line;
+pub use stream::cut;
 pub use verb::Verb;
 pub use writer::SessionField;
 pub use writer::write_line;

@@ -42,7 +42,7 @@ fn place(length: usize, at: usize, n: usize) -> usize
     at + n
 }
 
-fn put(out: &mut [u8], at: usize, text: &[u8]) -> usize
+pub fn put(out: &mut [u8], at: usize, text: &[u8]) -> usize
     ensures { λ r. ⌜ Written (now (out .entry)) at (now (text .entry)) (now (out .exit)) r ⌝ }
 {
     write_octets(out, at, text);
