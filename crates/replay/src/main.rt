@@ -1,15 +1,18 @@
 // Replays a script of calls on a server for the zone shop.example: lines on standard input, what came of each on standard
 // output (01, "The replay program").
+mod respond;
+
+use respond::Output;
+use respond::Text;
+use respond::respond;
 use script::Bytes;
 use script::Line;
 use script::cut;
+use script::place;
 use server::Server;
 use server::Started;
 use server::start;
 use table::part;
-use transcript::Output;
-use transcript::Text;
-use transcript::respond;
 
 // The server's numbers, how many octets of a line are held, how far the chunk is used, and whether to go on.
 struct Progress {
@@ -104,8 +107,8 @@ fn piece(
     let c = cut(part(chunk, p.used, chunk.len()), line, p.held);
     let q = Progress {
         server,
-        held: c.length,
-        used: p.used + c.used,
+        held: c.held,
+        used: place(chunk.len(), p.used, c.used),
         on: true,
     };
     if c.ended {

@@ -6,9 +6,10 @@ use mathlib.Core.Path.{_≡_}
 use mathlib.Core.List.{List, [], _∷_, _++_}
 use lib.ListN.{length, take, drop}
 use lib.Dec.{eqb, ltb}
+use Rattle.script.specs.Fields.{until}
 use Rattle.script.specs.Line.{maxLine}
 use Rattle.script.specs.Output.{lf}
-use Rattle.script.specs.declared.stream.Cut.{Cut}
+use Rattle.script.specs.declared.stream.Taken.{Taken}
 
 -- One more octet in front of the lines that follow it: an LF ends an empty line, any other octet belongs to the first line.
 abbrev pub before : List (List ℕ) → ℕ → List (List ℕ)
@@ -19,15 +20,6 @@ before (l ∷ ls) b = (b ∷ l) ∷ ls
 unfoldable pub linesIn : List ℕ → List (List ℕ)
 linesIn [] = []
 linesIn (b ∷ l) = cond (eqb b lf) ([] ∷ linesIn l) (before (linesIn l) b)
-
--- How many octets stand before the first LF, all of them where there is none.
-unfoldable pub untilLf : List ℕ → ℕ
-untilLf [] = 0
-untilLf (b ∷ l) = cond (eqb b lf) 0 (suc (untilLf l))
-
-pub record FirstLf (s : List ℕ) (i : ℕ) : Type 0 where
-  pub is : i ≡ untilLf s
-  pub within : i ≤ length s
 
 -- As much of a line as is held: one octet more than a line may have tells that it is too long.
 abbrev pub room : ℕ
@@ -46,13 +38,13 @@ pub record Piece : Type 0 where
 unfoldable pub pieceOf : List ℕ → List ℕ → Piece
 pieceOf held input =
     record {
-      held = kept (held ++ take (untilLf input) input);
-      rest = drop (suc (untilLf input)) input;
-      ended = ltb (untilLf input) (length input);
+      held = kept (held ++ take (until lf input) input);
+      rest = drop (suc (until lf input)) input;
+      ended = ltb (until lf input) (length input);
     }
 
 -- Code did so: the line is held at the front of memory that was `line` and is line′ then.
-pub record Cuts (input line : List ℕ) (held : ℕ) (line′ : List ℕ) (r : Cut) : Type 0 where
-  pub piece : record { held = take (r .length) line′; rest = drop (r .used) input; ended = r .ended } ≡ pieceOf (take held line) input
+pub record Cuts (input line : List ℕ) (held : ℕ) (line′ : List ℕ) (r : Taken) : Type 0 where
+  pub piece : record { held = take (r .held) line′; rest = drop (r .used) input; ended = r .ended } ≡ pieceOf (take held line) input
   pub within : r .used ≤ length input
   pub onward : 0 < length input → 0 < r .used

@@ -30,7 +30,7 @@ fn digit_octet(d: u8) -> u8
 const DIGITS: usize = 20;
 
 // The place n octets behind another, as far as the memory goes.
-fn place(length: usize, at: usize, n: usize) -> usize
+pub fn place(length: usize, at: usize, n: usize) -> usize
     ensures { λ r. ⌜ r ≡ min (at + n) length ⌝ }
 {
     if length <= at {

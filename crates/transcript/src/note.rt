@@ -3,6 +3,7 @@ use server::Answer;
 use server::Counts;
 use server::Flags;
 ghost use mathlib.Core.Path.{_≡_};
+ghost use mathlib.Core.Bool.{_&&_};
 ghost use Rattle.zone.specs.Lists.{allOf};
 ghost use Rattle.server.specs.Answers.{answerOf, countsOf, flagsOf};
 ghost use Rattle.transcript.specs.Lines.{countNote, flagNote, isQuiet, notesOf, noteList, silent};
@@ -100,6 +101,15 @@ fn is_quiet(note: Note) -> bool
     }
 }
 
+fn both_quiet(a: Note, b: Note) -> bool
+    ensures { λ r. ⌜ r ≡ isQuiet a && isQuiet b ⌝ }
+{
+    if is_quiet(a) {
+        return is_quiet(b);
+    }
+    false
+}
+
 pub fn all_quiet(n: Notes) -> bool
     ensures { λ r. ⌜ r ≡ allOf isQuiet (noteList n) ⌝ }
 {
@@ -107,14 +117,8 @@ pub fn all_quiet(n: Notes) -> bool
     let n1 = n.n1;
     let n2 = n.n2;
     let n3 = n.n3;
-    if !is_quiet(n0) {
-        return false;
+    if both_quiet(n0, n1) {
+        return both_quiet(n2, n3);
     }
-    if !is_quiet(n1) {
-        return false;
-    }
-    if !is_quiet(n2) {
-        return false;
-    }
-    is_quiet(n3)
+    false
 }

@@ -54,21 +54,32 @@ fn sending(answer: Answer) -> Sending
     }
 }
 
-// The bytes at the start of a session's output; past the last session none.
+// Of the session of a number; past the last one none.
+fn count_of(s: u64, c: Counts) -> usize
+    ensures { λ r. ⌜ r ≡ getD (countsOf c) s 0 ⌝ }
+{
+    if s == 0 {
+        return c.c0;
+    }
+    if s == 1 {
+        return c.c1;
+    }
+    if s == 2 {
+        return c.c2;
+    }
+    if s == 3 {
+        return c.c3;
+    }
+    0
+}
+
+// The bytes at the start of a session's output.
 fn sent_to(s: u64, c: Counts, out: &[u8]) -> &[u8]
     ensures { λ r. ⌜ now r ≡ partOf (now (out .entry)) (s * outputSize) (getD (countsOf c) s 0) ⌝ }
 {
-    if s == 0 {
-        return part(out, 0, c.c0);
-    }
-    if s == 1 {
-        return part(out, OUTPUT, c.c1);
-    }
-    if s == 2 {
-        return part(out, 2 * OUTPUT, c.c2);
-    }
-    if s == 3 {
-        return part(out, 3 * OUTPUT, c.c3);
+    let n = count_of(s, c);
+    if s < 4 {
+        return part(out, (s as usize) * OUTPUT, n);
     }
     part(out, 0, 0)
 }

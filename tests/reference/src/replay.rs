@@ -9,7 +9,8 @@ use std::fmt::Write;
 pub const ZONE: &str = "shop.example";
 /// The longest line, its LF aside.
 pub const MAX_LINE: usize = 32_768;
-const UNREADABLE: &str = "?\t19\t-\t-\n";
+/// What an unreadable line prints.
+pub const UNREADABLE: &str = "?\t19\t-\t-\n";
 
 /// What the replay program prints for an input.
 pub fn replay(input: &[u8]) -> String {

@@ -1,5 +1,4 @@
 // One line of input, answered.
-use crate::lines::write_lines;
 use script::Bytes;
 use script::Command;
 use script::SessionField;
@@ -15,6 +14,7 @@ use server::open;
 use server::tick;
 use service::SessionNumber;
 use table::part;
+use transcript::write_lines;
 
 // The sessions' outputs.
 pub type Output = [u8; 65536];

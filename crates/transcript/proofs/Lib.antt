@@ -1,0 +1,3 @@
+-- Laws of the lines of an answer: what is noted of each session, and how the lines are written.
+pub mod Noting
+pub mod Telling
