@@ -2,8 +2,6 @@
 // output (01, "The replay program").
 mod respond;
 
-use respond::Output;
-use respond::Text;
 use respond::respond;
 use script::Bytes;
 use script::Line;
@@ -13,6 +11,8 @@ use server::Server;
 use server::Started;
 use server::start;
 use table::part;
+use transcript::Output;
+use transcript::Text;
 
 // The server's numbers, how many octets of a line are held, how far the chunk is used, and whether to go on.
 struct Progress {

@@ -14,13 +14,9 @@ use server::open;
 use server::tick;
 use service::SessionNumber;
 use table::part;
+use transcript::Output;
+use transcript::Text;
 use transcript::write_lines;
-
-// The sessions' outputs.
-pub type Output = [u8; 65536];
-
-// Room for the lines of any answer.
-pub type Text = [u8; 327880];
 
 // The server's numbers as they are then, and how many octets of lines stand at the front of the text.
 pub struct Response {
@@ -28,7 +24,13 @@ pub struct Response {
     pub length: usize,
 }
 
-fn told(verb: Verb, own: SessionField, outcome: Outcome, out: &[u8], text: &mut [u8]) -> Response {
+fn told(
+    verb: Verb,
+    own: SessionField,
+    outcome: Outcome,
+    out: &Output,
+    text: &mut Text,
+) -> Response {
     let answer = outcome.answer;
     let server = outcome.server;
     Response {

@@ -2,10 +2,12 @@
 -- upward, or one line with 1 or the refusal and no session. Elsewhere the session is the line's own or the one opened, - where
 -- open is refused; hex stands only with 2."
 use Prim.Native.Nat.{ℕ, suc, _*_}
-use mathlib.Core.Bool.{Bool, true, false, cond}
+use mathlib.Core.Bool.{Bool, true, false, cond, _&&_}
 use mathlib.Core.List.{List, [], _∷_, _++_, map}
 use mathlib.Core.Option.{Option, none, some}
-use lib.ListN.{getD}
+use mathlib.Core.Path.{_≡_}
+use lib.ListN.{length, getD}
+use lib.Seq.{sets}
 use lib.Dec.{eqb}
 use Rattle.wire.specs.Part.{part}
 use Rattle.zone.specs.Lists.{allOf}
@@ -23,10 +25,10 @@ use Rattle.transcript.specs.declared.own.Sending.the-variants.{Counted, 
 
 -- ---- batch and tick: what there is to say of each session
 
-abbrev pub countNote : ℕ → Note
+unfoldable pub countNote : ℕ → Note
 countNote n = cond (eqb n 0) Quiet (Bytes n)
 
-abbrev pub flagNote : Bool → Note
+unfoldable pub flagNote : Bool → Note
 flagNote flag = cond flag Ended Quiet
 
 abbrev pub silent : List Note
@@ -50,6 +52,12 @@ isQuiet Quiet = true
 isQuiet (Bytes n) = false
 isQuiet Ended = false
 
+unfoldable pub bothQuiet : Note → Note → Bool
+bothQuiet a b = isQuiet a && isQuiet b
+
+unfoldable pub allQuiet : List Note → Bool
+allQuiet l = allOf isQuiet l
+
 -- "one line for each session with bytes (2) or ended (4)". A session's bytes stand at the start of its output.
 unfoldable pub noteLine : Verb → List ℕ → ℕ → Note → List ℕ
 noteLine v out s Quiet = []
@@ -64,7 +72,7 @@ noteLines v out s (x ∷ xs) = noteLine v out s x ++ noteLines v out (suc s) xs
 -- "or one line with 1 or the refusal and no session".
 unfoldable pub linesForAll : Verb → Answer → List ℕ → List ℕ
 linesForAll v a out =
-    cond (allOf isQuiet (notesOf a)) (lineOctets v (answerNumber a) none none) (noteLines v out 0 (notesOf a))
+    cond (allQuiet (notesOf a)) (lineOctets v (answerNumber a) none none) (noteLines v out 0 (notesOf a))
 
 -- ---- open, close and msg: one line
 
@@ -94,11 +102,17 @@ abbrev pub sendingOf : Sending → Option (List ℕ)
 sendingOf (Counted c) = some (countsOf c)
 sendingOf Nothing = none
 
--- The bytes of the line's own session.
+-- The bytes of the line's own session, which stand at the start of its output; past the last session none.
+unfoldable pub countFor : List ℕ → ℕ → ℕ
+countFor counts s = getD counts s 0
+
+unfoldable pub sentTo : List ℕ → ℕ → List ℕ → List ℕ
+sentTo counts s out = part out (s * outputSize) (countFor counts s)
+
 unfoldable pub bytesFor : Option ℕ → Option (List ℕ) → List ℕ → Option (List ℕ)
 bytesFor none counts out = none
 bytesFor (some s) none out = none
-bytesFor (some s) (some counts) out = some (part out (s * outputSize) (getD counts s 0))
+bytesFor (some s) (some counts) out = some (sentTo counts s out)
 
 unfoldable pub lineForOne : Verb → Option ℕ → Answer → List ℕ → List ℕ
 lineForOne v own a out = lineOctets v (answerNumber a) (sessionNamed own a) (bytesFor own (countsIn a) out)
@@ -116,3 +130,14 @@ tellsAll Unknown = false
 -- Of a line's verb, its own session if it has one, the answer, and the output as the call left it.
 unfoldable pub linesOf : Verb → Option ℕ → Answer → List ℕ → List ℕ
 linesOf v own a out = cond (tellsAll v) (linesForAll v a out) (lineForOne v own a out)
+
+-- ---- whole
+
+-- Room for the lines of any answer: four of them, with as many bytes each as an output of 65,536 has from its session's place on.
+abbrev pub textRoom : ℕ
+textRoom = 327880
+
+-- Octets written whole at the front of o, and how many they are.
+pub record Printed (o lines p : List ℕ) (r : ℕ) : Type 0 where
+  pub whole : p ≡ sets o 0 lines
+  pub count : r ≡ length lines

@@ -3,4 +3,6 @@ mod lines;
 mod note;
 mod own;
 
+pub use lines::Output;
+pub use lines::Text;
 pub use lines::write_lines;

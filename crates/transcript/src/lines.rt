@@ -1,7 +1,7 @@
 // The lines that an answer writes.
 use crate::note::Note;
 use crate::note::Notes;
-use crate::note::all_quiet;
+use crate::note::all_silent;
 use crate::note::notes;
 use crate::own::OUTPUT;
 use crate::own::write_for_one;
@@ -15,9 +15,10 @@ ghost use Prim.Native.Nat.{_≤_, _<_};
 ghost use mathlib.Core.Path.{_≡_};
 ghost use mathlib.Core.List.{[], _∷_};
 ghost use lib.ListN.{length};
+ghost use Rattle.service.specs.Checks.{leastOutput};
 ghost use Rattle.server.specs.Answers.{answerOf};
 ghost use Rattle.script.specs.Code.{Written, sessionOf};
-ghost use Rattle.transcript.specs.Lines.{tellsAll, noteLine, noteLines, noteList, linesForAll, linesOf};
+ghost use Rattle.transcript.specs.Lines.{tellsAll, noteLine, noteLines, noteList, linesForAll, linesOf, textRoom, Printed};
 
 // What is noted of session s, if anything is.
 fn write_note(verb: Verb, s: usize, note: Note, out: &[u8], text: &mut [u8], at: usize) -> usize
@@ -64,7 +65,7 @@ fn write_for_all(verb: Verb, answer: Answer, out: &[u8], text: &mut [u8]) -> usi
     ensures { λ r. ⌜ Written (now (text .entry)) 0 (linesForAll verb (answerOf answer) (now (out .entry))) (now (text .exit)) r ⌝ }
 {
     let n = notes(answer);
-    if all_quiet(n) {
+    if all_silent(n) {
         return write_line(
             text,
             0,
@@ -91,18 +92,31 @@ fn tells_all(verb: Verb) -> bool
     }
 }
 
-// At the front of lent memory; how many octets they are.
-pub fn write_lines(
-    verb: Verb,
-    own: SessionField,
-    answer: Answer,
-    out: &[u8],
-    text: &mut [u8],
-) -> usize
-    ensures { λ r. ⌜ Written (now (text .entry)) 0 (linesOf verb (sessionOf own) (answerOf answer) (now (out .entry))) (now (text .exit)) r ⌝ }
+fn write_either(verb: Verb, own: SessionField, answer: Answer, out: &[u8], text: &mut [u8]) -> usize
+    requires { ⌜ (length (now out) ≤ leastOutput) × (textRoom ≤ length (now text)) ⌝ }
+    ensures { λ r. ⌜ Printed (now (text .entry)) (linesOf verb (sessionOf own) (answerOf answer) (now (out .entry))) (now (text .exit)) r ⌝ }
 {
     if tells_all(verb) {
         return write_for_all(verb, answer, out, text);
     }
     write_for_one(verb, own, answer, out, text)
+}
+
+// The sessions' outputs, as a call left them.
+pub type Output = [u8; 65536];
+
+// Room for the lines of any answer.
+pub type Text = [u8; 327880];
+
+// At the front of the text; how many octets they are.
+pub fn write_lines(
+    verb: Verb,
+    own: SessionField,
+    answer: Answer,
+    out: &Output,
+    text: &mut Text,
+) -> usize
+    ensures { λ r. ⌜ Printed (now (text .entry)) (linesOf verb (sessionOf own) (answerOf answer) (now (out .entry))) (now (text .exit)) r ⌝ }
+{
+    write_either(verb, own, answer, out, text)
 }

@@ -3,10 +3,8 @@ use server::Answer;
 use server::Counts;
 use server::Flags;
 ghost use mathlib.Core.Path.{_≡_};
-ghost use mathlib.Core.Bool.{_&&_};
-ghost use Rattle.zone.specs.Lists.{allOf};
 ghost use Rattle.server.specs.Answers.{answerOf, countsOf, flagsOf};
-ghost use Rattle.transcript.specs.Lines.{countNote, flagNote, isQuiet, notesOf, noteList, silent};
+ghost use Rattle.transcript.specs.Lines.{countNote, flagNote, isQuiet, bothQuiet, allQuiet, notesOf, noteList, silent};
 ghost use mathlib.Core.List.{map};
 
 pub enum Note {
@@ -101,8 +99,8 @@ fn is_quiet(note: Note) -> bool
     }
 }
 
-fn both_quiet(a: Note, b: Note) -> bool
-    ensures { λ r. ⌜ r ≡ isQuiet a && isQuiet b ⌝ }
+fn are_quiet(a: Note, b: Note) -> bool
+    ensures { λ r. ⌜ r ≡ bothQuiet a b ⌝ }
 {
     if is_quiet(a) {
         return is_quiet(b);
@@ -110,15 +108,15 @@ fn both_quiet(a: Note, b: Note) -> bool
     false
 }
 
-pub fn all_quiet(n: Notes) -> bool
-    ensures { λ r. ⌜ r ≡ allOf isQuiet (noteList n) ⌝ }
+pub fn all_silent(n: Notes) -> bool
+    ensures { λ r. ⌜ r ≡ allQuiet (noteList n) ⌝ }
 {
     let n0 = n.n0;
     let n1 = n.n1;
     let n2 = n.n2;
     let n3 = n.n3;
-    if both_quiet(n0, n1) {
-        return both_quiet(n2, n3);
+    if are_quiet(n0, n1) {
+        return are_quiet(n2, n3);
     }
     false
 }

@@ -6,14 +6,10 @@ use server::Answer;
 use server::Counts;
 use server::answer_number;
 use table::part;
-ghost use Prim.Native.Nat.{_*_};
 ghost use mathlib.Core.Path.{_≡_};
-ghost use lib.ListN.{getD};
-ghost use Rattle.wire.specs.Part.{part as partOf};
-ghost use Rattle.service.specs.Checks.{outputSize};
 ghost use Rattle.server.specs.Answers.{answerOf, countsOf};
 ghost use Rattle.script.specs.Code.{Written, sessionOf};
-ghost use Rattle.transcript.specs.Lines.{sessionNamed, countsIn, sendingOf, lineForOne};
+ghost use Rattle.transcript.specs.Lines.{sessionNamed, countsIn, sendingOf, countFor, sentTo, lineForOne};
 
 // 01: "session s writes from s x 16,384".
 pub const OUTPUT: usize = 16384;
@@ -56,7 +52,7 @@ fn sending(answer: Answer) -> Sending
 
 // Of the session of a number; past the last one none.
 fn count_of(s: u64, c: Counts) -> usize
-    ensures { λ r. ⌜ r ≡ getD (countsOf c) s 0 ⌝ }
+    ensures { λ r. ⌜ r ≡ countFor (countsOf c) s ⌝ }
 {
     if s == 0 {
         return c.c0;
@@ -75,7 +71,7 @@ fn count_of(s: u64, c: Counts) -> usize
 
 // The bytes at the start of a session's output.
 fn sent_to(s: u64, c: Counts, out: &[u8]) -> &[u8]
-    ensures { λ r. ⌜ now r ≡ partOf (now (out .entry)) (s * outputSize) (getD (countsOf c) s 0) ⌝ }
+    ensures { λ r. ⌜ now r ≡ sentTo (countsOf c) s (now (out .entry)) ⌝ }
 {
     let n = count_of(s, c);
     if s < 4 {
