@@ -2,8 +2,8 @@
 use crate::note::Note;
 use crate::note::Notes;
 use crate::note::all_silent;
-use crate::note::notes;
-use crate::own::OUTPUT;
+use crate::note::noted;
+use crate::own::SESSION_OUTPUT;
 use crate::own::write_for_one;
 use script::SessionField;
 use script::Verb;
@@ -28,7 +28,15 @@ fn write_note(verb: Verb, s: usize, note: Note, out: &[u8], text: &mut [u8], at:
     let session = SessionField::Session(s as u64);
     match note {
         Note::Quiet => at,
-        Note::Bytes(n) => write_line(text, at, verb, 2, session, part(out, s * OUTPUT, n), true),
+        Note::Bytes(n) => write_line(
+            text,
+            at,
+            verb,
+            2,
+            session,
+            part(out, s * SESSION_OUTPUT, n),
+            true,
+        ),
         Note::Ended => write_line(text, at, verb, 4, session, out, false),
     }
 }
@@ -64,7 +72,7 @@ fn write_notes(verb: Verb, n: Notes, out: &[u8], text: &mut [u8]) -> usize
 fn write_for_all(verb: Verb, answer: Answer, out: &[u8], text: &mut [u8]) -> usize
     ensures { λ r. ⌜ Written (now (text .entry)) 0 (linesForAll verb (answerOf answer) (now (out .entry))) (now (text .exit)) r ⌝ }
 {
-    let n = notes(answer);
+    let n = noted(answer);
     if all_silent(n) {
         return write_line(
             text,

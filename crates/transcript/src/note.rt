@@ -74,7 +74,7 @@ fn silence() -> Notes
     }
 }
 
-pub fn notes(answer: Answer) -> Notes
+pub fn noted(answer: Answer) -> Notes
     ensures { λ r. ⌜ noteList r ≡ notesOf (answerOf answer) ⌝ }
 {
     match answer {

@@ -12,7 +12,7 @@ ghost use Rattle.script.specs.Code.{Written, sessionOf};
 ghost use Rattle.transcript.specs.Lines.{sessionNamed, countsIn, sendingOf, countFor, sentTo, lineForOne};
 
 // 01: "session s writes from s x 16,384".
-pub const OUTPUT: usize = 16384;
+pub const SESSION_OUTPUT: usize = 16384;
 
 // The counts of an answer that has them.
 pub enum Sending {
@@ -35,7 +35,7 @@ fn named(own: SessionField, answer: Answer) -> SessionField
     }
 }
 
-fn sending(answer: Answer) -> Sending
+fn counted(answer: Answer) -> Sending
     ensures { λ r. ⌜ sendingOf r ≡ countsIn (answerOf answer) ⌝ }
 {
     match answer {
@@ -75,7 +75,7 @@ fn sent_to(s: u64, c: Counts, out: &[u8]) -> &[u8]
 {
     let n = count_of(s, c);
     if s < 4 {
-        return part(out, (s as usize) * OUTPUT, n);
+        return part(out, (s as usize) * SESSION_OUTPUT, n);
     }
     part(out, 0, 0)
 }
@@ -91,7 +91,7 @@ pub fn write_for_one(
 {
     let number = answer_number(answer);
     let session = named(own, answer);
-    let Sending::Counted(c) = sending(answer) else {
+    let Sending::Counted(c) = counted(answer) else {
         return write_line(text, 0, verb, number, session, out, false);
     };
     let SessionField::Session(s) = own else {
