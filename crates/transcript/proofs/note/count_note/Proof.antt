@@ -1,4 +1,5 @@
 -- `transcript::note::count_note` meets its contract. Assumes nothing.
+use borrow.Author.Needs.{needs}
 use Rattle.transcript.proofs.Noting.{count-none, count-some}
 use Rattle.transcript.proofs.note.count_note.Statement.{statement}
 use Rattle.transcript.proofs.note.count_note.Tie as tie

@@ -1,4 +1,5 @@
 -- `transcript::note::flag_note` meets its contract. Assumes nothing.
+use borrow.Author.Needs.{needs}
 use Rattle.transcript.proofs.Noting.{flag-some, flag-none}
 use Rattle.transcript.proofs.note.flag_note.Statement.{statement}
 use Rattle.transcript.proofs.note.flag_note.Tie as tie
