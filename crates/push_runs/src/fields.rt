@@ -1,17 +1,16 @@
 // The fields of a line, parted by tabs.
 use script::Number;
 use script::read_number;
-use script::tab;
 use table::part;
 
 // The first field.
 pub fn first(s: &[u8]) -> &[u8] {
-    part(s, 0, tab(s))
+    part(s, 0, script::first(s, b'\t'))
 }
 
 // What stands behind the first tab, if there is one.
 pub fn behind(s: &[u8]) -> &[u8] {
-    let t = tab(s);
+    let t = script::first(s, b'\t');
     if t < s.len() {
         part(s, t + 1, s.len())
     } else {

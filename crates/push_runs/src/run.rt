@@ -7,7 +7,6 @@ use crate::fields::read_short;
 use script::Bytes;
 use script::Decoded;
 use script::read_bytes;
-use script::tab;
 use table::part;
 use wire::same_octets;
 use zone::BatchResult;
@@ -194,7 +193,7 @@ pub fn run_line(
         answer::fresh();
         return fresh();
     }
-    let t = tab(line);
+    let t = script::first(line, b'\t');
     if line.len() <= t {
         answer::unreadable();
         return s;

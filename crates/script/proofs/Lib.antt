@@ -6,6 +6,8 @@ pub mod Lines
 pub mod Numbers
 pub mod Parting
 pub mod ReadBack
+pub mod Searching
+pub mod Streaming
 pub mod Tabless
 pub mod Verbs
 pub mod Writing

@@ -12,7 +12,7 @@ use lib.Dec.{leb}
 use borrow.Author.Tests.{le-leb, lt-leb}
 use Rattle.script.specs.Number.{number}
 use Rattle.script.specs.Hex.{hexBytes}
-use Rattle.script.specs.Fields.{fields, FirstTab}
+use Rattle.script.specs.Fields.{tab, fields, First}
 use Rattle.script.specs.Verb.{verbOf}
 use Rattle.script.specs.Line.{Line, maxLine, timed, spoken, lineOfFields, lineOf}
 use Rattle.script.specs.Code.{numberRead, decodedBytes, commandLine, Is}
@@ -98,11 +98,11 @@ module _ (t : ℕ) (s : List ℕ) (d : Decoded) (o : List ℕ) (e : decodedBytes
 
 -- ---- message: two fields more
 
-pub message-short : (t : ℕ) (s : List ℕ) (i : ℕ) → FirstTab s i → length s ≤ i → (o : List ℕ) → commandLine Unreadable o ≡ timed message-verb t (fields s)
+pub message-short : (t : ℕ) (s : List ℕ) (i : ℕ) → First tab s i → length s ≤ i → (o : List ℕ) → commandLine Unreadable o ≡ timed message-verb t (fields s)
 unfolding timed
 message-short t s i h k o = rw (parted-none s i h k)
 
-module _ (t : ℕ) (s : List ℕ) (i : ℕ) (h : FirstTab s i) (k : i < length s) (r : Number) (e : r ≡ numberRead (number (take (i - 0) s))) where
+module _ (t : ℕ) (s : List ℕ) (i : ℕ) (h : First tab s i) (k : i < length s) (r : Number) (e : r ≡ numberRead (number (take (i - 0) s))) where
   abbrev rest : List ℕ
   rest = take (length s - (i + 1)) (drop (i + 1) s)
 
@@ -164,7 +164,7 @@ module _ (t : ℕ) (s o : List ℕ) where
 
 -- ---- the time
 
-module _ (v : Verb) (s : List ℕ) (i : ℕ) (h : FirstTab s i) (r : Number) (e : r ≡ numberRead (number (take (i - 0) s))) where
+module _ (v : Verb) (s : List ℕ) (i : ℕ) (h : First tab s i) (r : Number) (e : r ≡ numberRead (number (take (i - 0) s))) where
   whole : take (i - 0) s ≡ take i s
   whole = ap (λ (j : ℕ). take j s) (sub-zero i)
 
@@ -199,7 +199,7 @@ either : (t : Bool) → Line.unreadable ≡ cond t Line.unreadable Line.unreadab
 either true = refl
 either false = refl
 
-module _ (s : List ℕ) (i : ℕ) (h : FirstTab s i) where
+module _ (s : List ℕ) (i : ℕ) (h : First tab s i) where
   -- A field alone is no line, however long it is.
   pub line-bare : length s ≤ i → (o : List ℕ) → commandLine Unreadable o ≡ lineOf s
   unfolding lineOf lineOfFields spoken

@@ -10,64 +10,26 @@ use lib.Seq.{drop-cons, take-all}
 use lib.Dec.{ltb, eqb}
 use borrow.Author.Tests.{eq-eqb, ne-eqb, ltb-true, ltb-false}
 use Rattle.wire.proofs.Writes.{drop-slice}
-use Rattle.script.specs.Fields.{tab, fieldsWith, fields, tabsBefore, tabbed, untilTab, FirstTab}
-
--- ---- the loop that looks for a tab
-
-pub until-within : (s : List ℕ) → untilTab s ≤ length s
-unfolding untilTab
-until-within [] = omega arith
-until-within (b ∷ s) = by-test (eqb b tab) (until-within s)
-  where
-    by-test : (t : Bool) → untilTab s ≤ length s → cond t 0 (suc (untilTab s)) ≤ suc (length s)
-    by-test true h = omega arith
-    by-test false h = omega arith
-
-pub record Sought (s : List ℕ) (i : ℕ) : Type 0 where
-  pub rest : untilTab s ≡ i + untilTab (drop i s)
-
-pub sought-none : (s : List ℕ) → Sought s 0
-sought-none s = record { rest = omega arith }
-
-module _ (s : List ℕ) (i : ℕ) (r : Sought s i) where
-  pub sought-end : length s ≤ i → FirstTab s i
-  unfolding untilTab
-  sought-end h =
-      let e : untilTab (drop i s) ≡ 0 = ap untilTab (drop-of-length-le s h) in
-      record { is = omega (arith, r .rest); within = omega (arith, r .rest, until-within s) }
-
-  next : i < length s → untilTab (drop i s) ≡ cond (eqb (getD s i 0) tab) 0 (suc (untilTab (drop (suc i) s)))
-  unfolding untilTab
-  next h = ap untilTab (drop-cons s i 0 h)
-
-  pub sought-found : i < length s → getD s i 0 ≡ tab → FirstTab s i
-  sought-found h k =
-      let e : untilTab (drop i s) ≡ 0 = rw (next h, eq-eqb (getD s i 0) tab k) in
-      record { is = omega (arith, r .rest); within = omega arith }
-
-  pub sought-turn : i < length s → (getD s i 0 ≡ tab → ⊥) → Sought s (i + 1)
-  sought-turn h k =
-      let e : untilTab (drop i s) ≡ suc (untilTab (drop (suc i) s)) = rw (next h, ne-eqb (getD s i 0) tab k) in
-      record { rest = rw (add-one i) (omega (arith, r .rest)) }
+use Rattle.script.specs.Fields.{tab, fieldsWith, fields, tabsBefore, tabbed, until, First}
 
 -- ---- parting at the first tab
 
-fields-parted : (s : List ℕ) → untilTab s < length s → fields s ≡ take (untilTab s) s ∷ fields (drop (suc (untilTab s)) s)
-unfolding fields untilTab
+fields-parted : (s : List ℕ) → until tab s < length s → fields s ≡ take (until tab s) s ∷ fields (drop (suc (until tab s)) s)
+unfolding fields until
 fields-parted [] h = absurd (omega arith)
 fields-parted (b ∷ s) h = by-test (eqb b tab) (λ k. fields-parted s k) h
   where
-    by-test : (t : Bool) → (untilTab s < length s → fields s ≡ take (untilTab s) s ∷ fields (drop (suc (untilTab s)) s)) → cond t 0 (suc (untilTab s)) < suc (length s)
-        → fieldsWith t b (fields s) ≡ take (cond t 0 (suc (untilTab s))) (b ∷ s) ∷ fields (drop (suc (cond t 0 (suc (untilTab s)))) (b ∷ s))
+    by-test : (t : Bool) → (until tab s < length s → fields s ≡ take (until tab s) s ∷ fields (drop (suc (until tab s)) s)) → cond t 0 (suc (until tab s)) < suc (length s)
+        → fieldsWith t b (fields s) ≡ take (cond t 0 (suc (until tab s))) (b ∷ s) ∷ fields (drop (suc (cond t 0 (suc (until tab s)))) (b ∷ s))
     by-test true ih k = refl
     by-test false ih k = ap (fieldsWith false b) (ih (omega arith))
 
-pub fields-whole : (s : List ℕ) → length s ≤ untilTab s → fields s ≡ s ∷ []
-unfolding fields untilTab
+pub fields-whole : (s : List ℕ) → length s ≤ until tab s → fields s ≡ s ∷ []
+unfolding fields until
 fields-whole [] h = refl
 fields-whole (b ∷ s) h = by-test (eqb b tab) (λ k. fields-whole s k) h
   where
-    by-test : (t : Bool) → (length s ≤ untilTab s → fields s ≡ s ∷ []) → suc (length s) ≤ cond t 0 (suc (untilTab s)) → fieldsWith t b (fields s) ≡ (b ∷ s) ∷ []
+    by-test : (t : Bool) → (length s ≤ until tab s → fields s ≡ s ∷ []) → suc (length s) ≤ cond t 0 (suc (until tab s)) → fieldsWith t b (fields s) ≡ (b ∷ s) ∷ []
     by-test true ih k = absurd (omega arith)
     by-test false ih k = ap (fieldsWith false b) (ih (omega arith))
 
@@ -83,7 +45,7 @@ fields-some (b ∷ s) = by-test (eqb b tab) (fields s)
     by-test false (f ∷ fs) = omega arith
 
 -- The same as slices have it: up to a place, and behind it.
-module _ (s : List ℕ) (i : ℕ) (r : FirstTab s i) where
+module _ (s : List ℕ) (i : ℕ) (r : First tab s i) where
   pub parted : i < length s → fields s ≡ take i s ∷ fields (take (length s - (i + 1)) (drop (i + 1) s))
   parted h =
       fields-parted s (omega (arith, r .is)) ∙ ap (λ (j : ℕ). take j s ∷ fields (drop (suc j) s)) (sym (r .is))
@@ -96,14 +58,14 @@ module _ (s : List ℕ) (i : ℕ) (r : FirstTab s i) where
 
 -- A field has no tab.
 pub record Field (f : List ℕ) : Type 0 where
-  pub tabless : length f ≤ untilTab f
+  pub tabless : length f ≤ until tab f
 
 pub fields-joined : (f l : List ℕ) → Field f → fields (f ++ (tab ∷ l)) ≡ f ∷ fields l
-unfolding fields untilTab
+unfolding fields until
 fields-joined [] l h = refl
 fields-joined (b ∷ f) l h = by-test (eqb b tab) (λ k. fields-joined f l k) (h .tabless)
   where
-    by-test : (t : Bool) → (Field f → fields (f ++ (tab ∷ l)) ≡ f ∷ fields l) → suc (length f) ≤ cond t 0 (suc (untilTab f)) → fieldsWith t b (fields (f ++ (tab ∷ l))) ≡ (b ∷ f) ∷ fields l
+    by-test : (t : Bool) → (Field f → fields (f ++ (tab ∷ l)) ≡ f ∷ fields l) → suc (length f) ≤ cond t 0 (suc (until tab f)) → fieldsWith t b (fields (f ++ (tab ∷ l))) ≡ (b ∷ f) ∷ fields l
     by-test true ih k = absurd (omega arith)
     by-test false ih k = ap (fieldsWith false b) (ih (record { tabless = omega arith }))
 
@@ -127,20 +89,20 @@ fields-tabbed f fs h = tabs-parted f fs (h .0) (h .1)
 module _ (P : List (List ℕ) → Type 0) (s : List ℕ) where
   -- What holds of the whole as one field, and of any two or more, holds of the fields.
   pub fields-cases : P (s ∷ []) → ((f g : List ℕ) (gs : List (List ℕ)) → P (f ∷ g ∷ gs)) → P (fields s)
-  fields-cases one more = by-test (ltb (untilTab s) (length s)) refl
+  fields-cases one more = by-test (ltb (until tab s) (length s)) refl
     where
       more-of : (f : List ℕ) (fs : List (List ℕ)) → 0 < length fs → P (f ∷ fs)
       more-of f [] h = absurd (omega arith)
       more-of f (g ∷ gs) h = more f g gs
 
-      by-test : (t : Bool) → ltb (untilTab s) (length s) ≡ t → P (fields s)
+      by-test : (t : Bool) → ltb (until tab s) (length s) ≡ t → P (fields s)
       by-test true e =
-          let rest : List ℕ = drop (suc (untilTab s)) s in
-          subst⁻¹ P (fields-parted s (ltb-true (untilTab s) (length s) e)) (more-of (take (untilTab s) s) (fields rest) (fields-some rest))
-      by-test false e = subst⁻¹ P (fields-whole s (ltb-false (untilTab s) (length s) e)) one
+          let rest : List ℕ = drop (suc (until tab s)) s in
+          subst⁻¹ P (fields-parted s (ltb-true (until tab s) (length s) e)) (more-of (take (until tab s) s) (fields rest) (fields-some rest))
+      by-test false e = subst⁻¹ P (fields-whole s (ltb-false (until tab s) (length s) e)) one
 
 -- The first field, whatever follows it.
-pub first-field : (P : List (List ℕ) → Type 0) (s : List ℕ) (i : ℕ) → FirstTab s i → ((fs : List (List ℕ)) → P (take i s ∷ fs)) → P (fields s)
+pub first-field : (P : List (List ℕ) → Type 0) (s : List ℕ) (i : ℕ) → First tab s i → ((fs : List (List ℕ)) → P (take i s ∷ fs)) → P (fields s)
 first-field P s i r k = by-test (ltb i (length s)) refl
   where
     by-test : (t : Bool) → ltb i (length s) ≡ t → P (fields s)

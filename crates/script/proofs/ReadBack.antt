@@ -13,7 +13,7 @@ use borrow.Author.Tests.{lt-ltb, ltb-true, ltb-false, le-leb, ne-eqb}
 use Rattle.script.specs.Digit.{digitValue, digitOctet}
 use Rattle.script.specs.Number.{digits, in64, valueOf, plain, number, decimalIn, maxDigits, decimal}
 use Rattle.script.specs.Hex.{hexOctets}
-use Rattle.script.specs.Fields.{tabbed, untilTab}
+use Rattle.script.specs.Fields.{tabbed, until}
 use Rattle.script.specs.Verb.{verbText}
 use Rattle.script.specs.Line.{Line, maxLine, timed, spoken, lineOfFields, lineOf, lineFields, lineText, Fitting}
 use Rattle.script.specs.declared.verb.Verb.{Verb}
@@ -97,7 +97,7 @@ number-read x h = rw (decimal-first x h, decimal-value x h, lt-ltb x (2 ^ 64) h)
 -- ---- a line
 
 verb-field : (v : Verb) → Field (verbText v)
-unfolding verbText untilTab
+unfolding verbText until
 verb-field Open = record { tabless = lit≤ tt }
 verb-field Close = record { tabless = lit≤ tt }
 verb-field Message = record { tabless = lit≤ tt }

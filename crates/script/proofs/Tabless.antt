@@ -11,7 +11,7 @@ use borrow.Author.Tests.{ne-eqb, ltb-true}
 use Rattle.script.specs.Digit.{digitValue}
 use Rattle.script.specs.Number.{digits, in64, valueOf, plain, number}
 use Rattle.script.specs.Hex.{behind, hexBytes}
-use Rattle.script.specs.Fields.{tab, untilTab}
+use Rattle.script.specs.Fields.{tab, until}
 use Rattle.script.proofs.Digits.{digit-below}
 use Rattle.script.proofs.Parting.{Field}
 
@@ -30,8 +30,8 @@ and-both false b e = let z : _≡_ {A = ℕ} 0 1 = cc in absurd (omega arith)
 no-tab : (b : ℕ) → digitValue b < 16 → b ≡ tab → ⊥
 no-tab b h e = let k : 16 ≡ digitValue b = digit-below b (omega arith) in omega arith
 
-digits-tabless : (x : ℕ) (s : List ℕ) (y : ℕ) → digits x s ≡ some y → length s ≤ untilTab s
-unfolding digits untilTab
+digits-tabless : (x : ℕ) (s : List ℕ) (y : ℕ) → digits x s ≡ some y → length s ≤ until tab s
+unfolding digits until
 digits-tabless x [] y e = omega arith
 digits-tabless x (b ∷ s) y e =
     let p = cond-some (ltb (digitValue b) 10) (digits (x * 10 + digitValue b) s) y e in
@@ -53,8 +53,8 @@ behind-some : (p : List ℕ) (o : Option (List ℕ)) (l : List ℕ) → behind p
 behind-some p none l e = none-some e
 behind-some p (some m) l e = (m, refl)
 
-hex-tabless : (s l : List ℕ) → hexBytes s ≡ some l → length s ≤ untilTab s
-unfolding hexBytes untilTab
+hex-tabless : (s l : List ℕ) → hexBytes s ≡ some l → length s ≤ until tab s
+unfolding hexBytes until
 hex-tabless [] l e = omega arith
 hex-tabless (a ∷ []) l e = none-some e
 hex-tabless (a ∷ b ∷ s) l e =

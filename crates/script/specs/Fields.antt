@@ -29,11 +29,11 @@ unfoldable pub tabbed : List (List ℕ) → List ℕ
 tabbed [] = []
 tabbed (f ∷ fs) = f ++ tabsBefore fs
 
--- How many octets stand before the first tab, all of them where there is none: the length of the first field.
-unfoldable pub untilTab : List ℕ → ℕ
-untilTab [] = 0
-untilTab (b ∷ l) = cond (eqb b tab) 0 (suc (untilTab l))
+-- How many octets stand before the first x, all of them where there is none: for a tab, the length of the first field.
+unfoldable pub until : ℕ → List ℕ → ℕ
+until x [] = 0
+until x (b ∷ l) = cond (eqb b x) 0 (suc (until x l))
 
-pub record FirstTab (s : List ℕ) (i : ℕ) : Type 0 where
-  pub is : i ≡ untilTab s
+pub record First (x : ℕ) (s : List ℕ) (i : ℕ) : Type 0 where
+  pub is : i ≡ until x s
   pub within : i ≤ length s

@@ -6,4 +6,5 @@ pub mod Hex
 pub mod Line
 pub mod Number
 pub mod Output
+pub mod Stream
 pub mod Verb

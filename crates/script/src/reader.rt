@@ -2,6 +2,7 @@
 use crate::number::Number;
 use crate::number::digit;
 use crate::number::read_number;
+use crate::search::first;
 use crate::verb::Verb;
 use crate::verb::verb_of;
 ghost use Prim.Native.Nat.{_*_, _≤_};
@@ -9,7 +10,7 @@ ghost use mathlib.Core.Path.{_≡_};
 ghost use lib.ListN.{length};
 ghost use Rattle.script.specs.Hex.{hexBytes, hexBytesIn};
 ghost use Rattle.script.specs.Code.{decodedBytes, commandLine, Is};
-ghost use Rattle.script.specs.Fields.{fields, FirstTab};
+ghost use Rattle.script.specs.Fields.{fields};
 ghost use Rattle.script.specs.Line.{maxLine, lineOf, timed, spoken};
 ghost use Rattle.script.specs.declared.verb.Verb.the-variants.{Close, Message, Batch};
 ghost use mathlib.Core.List.{[]};
@@ -70,20 +71,6 @@ pub enum Command {
 
 const MAX_LINE: usize = 32_768;
 
-// Where the first tab stands, or the length where there is none.
-pub fn tab(s: &[u8]) -> usize
-    ensures { λ r. ⌜ FirstTab (now (s .entry)) r ⌝ }
-{
-    let mut i = 0;
-    while i < s.len() {
-        if s[i] == b'\t' {
-            return i;
-        }
-        i += 1;
-    }
-    i
-}
-
 // A verb and its time, and nothing behind them.
 fn read_short(verb: Verb, time: u64) -> Command
     ensures { λ r. ⌜ Is r (timed verb time []) ⌝ }
@@ -121,7 +108,7 @@ fn read_message(time: u64, s: &[u8], bytes: &mut Bytes) -> Command
     requires { ⌜ length (now s) ≤ maxLine ⌝ }
     ensures { λ r. ⌜ commandLine r (now (bytes .exit)) ≡ timed Message time (fields (now (s .entry))) ⌝ }
 {
-    let t = tab(s);
+    let t = first(s, b'\t');
     if s.len() <= t {
         return Command::Unreadable;
     }
@@ -154,7 +141,7 @@ fn read_spoken(verb: Verb, s: &[u8], bytes: &mut Bytes) -> Command
     requires { ⌜ length (now s) ≤ maxLine ⌝ }
     ensures { λ r. ⌜ commandLine r (now (bytes .exit)) ≡ spoken verb (fields (now (s .entry))) ⌝ }
 {
-    let t = tab(s);
+    let t = first(s, b'\t');
     let Number::Value(time) = read_number(&s[0..t]) else {
         return Command::Unreadable;
     };
@@ -171,7 +158,7 @@ pub fn read_line(line: &[u8], bytes: &mut Bytes) -> Command
     if MAX_LINE < line.len() {
         return Command::Unreadable;
     }
-    let t = tab(line);
+    let t = first(line, b'\t');
     if line.len() <= t {
         return Command::Unreadable;
     }

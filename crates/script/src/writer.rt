@@ -30,7 +30,7 @@ fn digit_octet(d: u8) -> u8
 const DIGITS: usize = 20;
 
 // The place n octets behind another, as far as the memory goes.
-fn place(length: usize, at: usize, n: usize) -> usize
+pub fn place(length: usize, at: usize, n: usize) -> usize
     ensures { λ r. ⌜ r ≡ min (at + n) length ⌝ }
 {
     if length <= at {
@@ -42,7 +42,7 @@ fn place(length: usize, at: usize, n: usize) -> usize
     at + n
 }
 
-fn put(out: &mut [u8], at: usize, text: &[u8]) -> usize
+pub fn put(out: &mut [u8], at: usize, text: &[u8]) -> usize
     ensures { λ r. ⌜ Written (now (out .entry)) at (now (text .entry)) (now (out .exit)) r ⌝ }
 {
     write_octets(out, at, text);

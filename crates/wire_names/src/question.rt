@@ -3,7 +3,6 @@ use script::Decoded;
 use script::Number;
 use script::read_bytes;
 use script::read_number;
-use script::tab;
 use table::part;
 use wire::same_octets;
 
@@ -85,13 +84,13 @@ fn ask_two(about: u8, first: &[u8], second: &[u8]) {
 }
 
 pub fn ask(line: &[u8]) {
-    let v = tab(line);
+    let v = script::first(line, b'\t');
     if line.len() <= v {
         unreadable();
         return;
     }
     let rest = part(line, v + 1, line.len());
-    let f = tab(rest);
+    let f = script::first(rest, b'\t');
     if rest.len() <= f {
         unreadable();
         return;

@@ -1,6 +1,7 @@
 //! A DNS Push Notification server (RFC 8490, RFC 8765) with its client, its change notifications and its cases,
 //! written from the papers alone, for comparison with the proved one.
 
+pub mod bench_script;
 pub mod book;
 pub mod call;
 pub mod child;
@@ -29,12 +30,15 @@ pub mod push_runs;
 pub mod push_sizes;
 pub mod push_walks;
 pub mod random;
+pub mod reach;
 pub mod reading;
 pub mod replay;
+pub mod run;
 pub mod script;
 pub mod selftest;
 pub mod server;
 pub mod shorter;
 pub mod tally;
 pub mod timing;
+pub mod vectors;
 pub mod zone;

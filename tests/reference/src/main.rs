@@ -1,6 +1,8 @@
 //! The command line.
 
-use reference::{hex, kind_cases, match_cases, name_cases, push_cases, replay, script, selftest};
+use reference::{
+    bench_script, hex, kind_cases, match_cases, name_cases, push_cases, reach, replay, script, selftest, vectors,
+};
 use std::collections::HashMap;
 use std::io::{self, BufWriter, Read, Write};
 use std::process::ExitCode;
@@ -9,7 +11,8 @@ const USAGE: &str = "usage: reference replay | \
 compare --language replay|service --seed N --calls N -- PROGRAM [ARGUMENT]... | \
 script --seed N --lines N | kinds --seed N --count N | \
 matches --seed N --count N | names --seed N --in FILE --out FILE | pushes --seed N --in FILE --out FILE | \
-selftest --seed N --calls N";
+selftest --seed N --calls N | bench --in FILE --out FILE | vectors --seed N --in FILE --out FILE | \
+reach --in FILE --out FILE";
 
 /// What stopped a sub-command.
 enum Stop {
@@ -98,6 +101,37 @@ fn write_script(options: Options) -> Result<ExitCode, Stop> {
     Ok(ExitCode::SUCCESS)
 }
 
+/// Writes the bench examples as a script with its output, and says which lines are which example.
+fn bench(options: Options) -> Result<ExitCode, Stop> {
+    let bench = bench_script::bench();
+    for (number, begin, end) in &bench.ranges {
+        println!("example {number}: lines {begin} to {end}");
+    }
+    write_replayed(&options, &bench.run.text)
+}
+
+fn write_vectors(options: Options) -> Result<ExitCode, Stop> {
+    write_replayed(&options, &vectors::vectors(options.number("--seed")?))
+}
+
+/// Writes a script, and what the replay program prints for it, to their files.
+fn write_replayed(options: &Options, script: &[u8]) -> Result<ExitCode, Stop> {
+    std::fs::write(&options.0["--in"], script)?;
+    std::fs::write(&options.0["--out"], replay::replay(script))?;
+    Ok(ExitCode::SUCCESS)
+}
+
+/// Says what a script and its output reach; the exit status is 1 where something is missing or the output is another.
+fn count_reach(options: Options) -> Result<ExitCode, Stop> {
+    let (input, output) = (std::fs::read(&options.0["--in"])?, std::fs::read(&options.0["--out"])?);
+    let (text, is_whole) = match reach::reach(&input, &output) {
+        Ok(reach) => reach.report(),
+        Err(why) => (format!("reach: {why}\n"), false),
+    };
+    io::stdout().lock().write_all(text.as_bytes())?;
+    Ok(if is_whole { ExitCode::SUCCESS } else { ExitCode::from(1) })
+}
+
 fn test_itself(options: Options) -> Result<ExitCode, Stop> {
     let (report, code) = match selftest::run(options.number("--seed")?, options.number("--calls")?) {
         Ok(counts) => (counts.report(), ExitCode::SUCCESS),
@@ -140,6 +174,9 @@ fn run(arguments: &[String]) -> Result<ExitCode, Stop> {
         "kinds" => kinds(Options::read(rest, &["--seed", "--count"])?),
         "matches" => matches(Options::read(rest, &["--seed", "--count"])?),
         "pushes" => pushes(Options::read(rest, &["--seed", "--in", "--out"])?),
+        "bench" => bench(Options::read(rest, &["--in", "--out"])?),
+        "vectors" => write_vectors(Options::read(rest, &["--seed", "--in", "--out"])?),
+        "reach" => count_reach(Options::read(rest, &["--in", "--out"])?),
         "names" => names(Options::read(rest, &["--seed", "--in", "--out"])?),
         _ => Err(Stop::Usage),
     }

@@ -55,7 +55,7 @@ pub fn next_line(generator: &mut Generator, server: &Server, left: usize) -> Vec
 }
 
 /// A message line of just so many bytes that is well formed but for its length.
-fn long_line(server: &Server, length: usize) -> Vec<u8> {
+pub fn long_line(server: &Server, length: usize) -> Vec<u8> {
     let head = |session: u64| write_line(&Call::Message { time: server.latest, session, bytes: Vec::new() }).len();
     let session = if (length - head(0)) % 2 == 1 { 10 } else { 0 };
     let room = (length - head(session)) / 2;
@@ -64,7 +64,7 @@ fn long_line(server: &Server, length: usize) -> Vec<u8> {
 }
 
 /// A line that was readable, with something done to it that mostly makes it unreadable.
-fn spoiled(mut line: Vec<u8>, random: &mut Random) -> Vec<u8> {
+pub fn spoiled(mut line: Vec<u8>, random: &mut Random) -> Vec<u8> {
     let at = random.below(line.len());
     match random.below(14) {
         0 => line.push(b'\t'),

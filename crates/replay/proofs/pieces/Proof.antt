@@ -1,0 +1,25 @@
+-- `replay::pieces` is safe and ends: the turns are counted down. Assumes nothing.
+use borrow.Author.Needs.{needs}
+use Rattle.replay.proofs.pieces.Statement.{statement}
+use Rattle.replay.proofs.pieces.Tie as tie
+
+abbrev Inv-loop : tie.InvT-loop
+Inv-loop zone first₀ second₀ s0₀ s1₀ s2₀ s3₀ chunk line₀ bytes₀ out₀ text₀ p₀ turns₀ first second s0 s1 s2 s3 line bytes out text p turns = Unit {0}
+
+abbrev μ-loop : tie.MeasureT-loop
+μ-loop zone first₀ second₀ s0₀ s1₀ s2₀ s3₀ chunk line₀ bytes₀ out₀ text₀ p₀ turns₀ first second s0 s1 s2 s3 line bytes out text p turns = turns
+
+pub pieces-spec : {M : Type 1} → statement M
+pieces-spec =
+    tie.close
+    (tie.spec
+    Inv-loop
+    μ-loop
+    (λ c. search needs)
+    (λ c κs. search needs)
+    (λ c. search needs)
+    (λ c. search needs)
+    (λ c. search needs)
+    (λ c. search needs)
+    (λ c. search needs)
+    (λ c. search needs))

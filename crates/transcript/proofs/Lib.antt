@@ -1,0 +1,4 @@
+-- Laws of the lines of an answer: what is noted of each session, and how the lines are written.
+pub mod Noting
+pub mod Telling
+pub mod Fits
