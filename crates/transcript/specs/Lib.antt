@@ -1,2 +1,3 @@
--- Definitions of the replay program's output: the lines of an answer.
+-- Definitions of the replay program: the lines of an answer; the whole input in chunks.
 pub mod Lines
+pub mod Chunks
