@@ -142,8 +142,8 @@ feeds-fed raw f held e input lines last (ends {lines = ls} h r) =
       free = g .free;
       held = g .held;
       onward = λ rest.
-        ap (map kept) (held-used raw f input (ltb-true (until lf input) (length input) h) rest)
-        ∙ ap₂ (λ (x : List ℕ) (y : List (List ℕ)). x ∷ y) (sym k) (g .onward rest);
+          ap (map kept) (held-used raw f input (ltb-true (until lf input) (length input) h) rest)
+          ∙ ap₂ (λ (x : List ℕ) (y : List (List ℕ)). x ∷ y) (sym k) (g .onward rest);
     }
 
 unended-kept : (l : List ℕ) → unended (kept l) ≡ map kept (unended l)
