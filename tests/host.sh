@@ -12,5 +12,5 @@ build() { # NAME FLAGS...
 library
 build host -O2
 build host-sanitized -g -fsanitize=address,undefined -fno-sanitize-recover=all
-run python3 tests/host/check.py target/host examples/client.py 1
-run python3 tests/host/check.py target/host-sanitized examples/client.py 2
+run timeout 300 python3 tests/host/check.py target/host examples/client.py 1
+run timeout 300 python3 tests/host/check.py target/host-sanitized examples/client.py 2
