@@ -39,6 +39,24 @@ fn told(
     }
 }
 
+// Of a call that names no session.
+fn told_of_all(verb: Verb, outcome: Outcome, out: &Output, text: &mut Text) -> Response {
+    told(verb, SessionField::NoSession, outcome, out, text)
+}
+
+fn respond_close(server: Server, t: u64, session: u64, out: &Output, text: &mut Text) -> Response {
+    let outcome = close(server, t, SessionNumber(session));
+    let own = SessionField::Session(session);
+    told(Verb::Close, own, outcome, out, text)
+}
+
+// 01: an unreadable line "writes ?, 19, -, -".
+fn unreadable(server: Server, out: &Output, text: &mut Text) -> Response {
+    let none = SessionField::NoSession;
+    let length = write_line(text, 0, Verb::Unknown, 19, none, out, false);
+    Response { server, length }
+}
+
 fn respond_message(
     server: Server,
     zone: &[u8; 255],
@@ -104,7 +122,7 @@ fn respond_batch(
         edits,
         out,
     );
-    told(Verb::Batch, SessionField::NoSession, outcome, out, text)
+    told_of_all(Verb::Batch, outcome, out, text)
 }
 
 pub fn respond(
@@ -122,20 +140,8 @@ pub fn respond(
     text: &mut Text,
 ) -> Response {
     match read_line(line, bytes) {
-        Command::Open(t) => told(
-            Verb::Open,
-            SessionField::NoSession,
-            open(server, t),
-            out,
-            text,
-        ),
-        Command::Close(t, s) => told(
-            Verb::Close,
-            SessionField::Session(s),
-            close(server, t, SessionNumber(s)),
-            out,
-            text,
-        ),
+        Command::Open(t) => told_of_all(Verb::Open, open(server, t), out, text),
+        Command::Close(t, s) => respond_close(server, t, s, out, text),
         Command::Message(t, s, n) => respond_message(
             server,
             zone,
@@ -165,24 +171,7 @@ pub fn respond(
             out,
             text,
         ),
-        Command::Tick(t) => told(
-            Verb::Tick,
-            SessionField::NoSession,
-            tick(server, t),
-            out,
-            text,
-        ),
-        Command::Unreadable => Response {
-            server,
-            length: write_line(
-                text,
-                0,
-                Verb::Unknown,
-                19,
-                SessionField::NoSession,
-                out,
-                false,
-            ),
-        },
+        Command::Tick(t) => told_of_all(Verb::Tick, tick(server, t), out, text),
+        Command::Unreadable => unreadable(server, out, text),
     }
 }
