@@ -1,11 +1,17 @@
 #!/bin/sh
-# The C example: built against the library, run, and held to examples/questions.stdout.
+# The C example: built against the library, plain and with sanitizers, run, and held to examples/questions.stdout.
 set -eu
 cd "$(dirname "$0")/.."
 . tests/lib/library.sh
 library
-run cc -std=c11 -Wall -Wextra -Werror -Iinclude -o target/questions examples/questions.c "$library"
-echo '+ target/questions | diff examples/questions.stdout -'
-target/questions >target/questions.stdout
-diff examples/questions.stdout target/questions.stdout
-echo "questions: $(wc -l <target/questions.stdout) answers as expected"
+try() { # NAME FLAGS...
+    name=$1
+    shift
+    run cc -std=c11 -Wall -Wextra -Werror "$@" -Iinclude -o "target/$name" examples/questions.c "$library"
+    echo "+ target/$name | diff examples/questions.stdout -"
+    "target/$name" >"target/$name.stdout"
+    diff examples/questions.stdout "target/$name.stdout"
+    echo "questions: $(wc -l <"target/$name.stdout") answers as expected"
+}
+try questions
+try questions-sanitized -g -fsanitize=address,undefined -fno-sanitize-recover=all
