@@ -7,6 +7,7 @@ use script::Bytes;
 use script::Line;
 use script::cut;
 use script::place;
+use server::Name;
 use server::Server;
 use server::Started;
 use server::start;
@@ -51,7 +52,7 @@ fn print(text: &Text, n: usize) -> bool {
 // Answers the line that is held.
 fn answer(
     p: Progress,
-    zone: &[u8; 255],
+    zone: &Name,
     first: &mut zone::Area,
     second: &mut zone::Area,
     s0: &mut session::Area,
@@ -90,7 +91,7 @@ fn answer(
 // The chunk up to the end of a line, or of the chunk.
 fn piece(
     p: Progress,
-    zone: &[u8; 255],
+    zone: &Name,
     first: &mut zone::Area,
     second: &mut zone::Area,
     s0: &mut session::Area,
@@ -133,7 +134,7 @@ fn piece(
 // The lines that end in the chunk.
 fn pieces(
     start: Progress,
-    zone: &[u8; 255],
+    zone: &Name,
     first: &mut zone::Area,
     second: &mut zone::Area,
     s0: &mut session::Area,
@@ -172,7 +173,7 @@ fn pieces(
 // Reads once. Where the input ended, the last line's LF may be missing; where a read fails, a line that is not whole is dropped.
 fn chunk(
     p: Progress,
-    zone: &[u8; 255],
+    zone: &Name,
     first: &mut zone::Area,
     second: &mut zone::Area,
     s0: &mut session::Area,
@@ -213,7 +214,7 @@ fn chunk(
 }
 
 // A proved loop has to end, and nothing says that the input does: the turns are counted down, from a number that no run uses up.
-fn replay(server: Server, zone: &[u8; 255]) {
+fn replay(server: Server, zone: &Name) {
     let mut first = [0u8; zone::AREA];
     let mut second = [0u8; zone::AREA];
     let mut s0 = [0u8; session::AREA];

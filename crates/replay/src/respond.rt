@@ -5,6 +5,7 @@ use script::SessionField;
 use script::Verb;
 use script::read_line;
 use script::write_line;
+use server::Name;
 use server::Outcome;
 use server::Server;
 use server::batch;
@@ -59,7 +60,7 @@ fn unreadable(server: Server, out: &Output, text: &mut Text) -> Response {
 
 fn respond_message(
     server: Server,
-    zone: &[u8; 255],
+    zone: &Name,
     first: &zone::Area,
     second: &zone::Area,
     s0: &mut session::Area,
@@ -97,7 +98,7 @@ fn respond_message(
 
 fn respond_batch(
     server: Server,
-    zone: &[u8; 255],
+    zone: &Name,
     first: &mut zone::Area,
     second: &mut zone::Area,
     s0: &session::Area,
@@ -127,7 +128,7 @@ fn respond_batch(
 
 pub fn respond(
     server: Server,
-    zone: &[u8; 255],
+    zone: &Name,
     first: &mut zone::Area,
     second: &mut zone::Area,
     s0: &mut session::Area,

@@ -23,6 +23,7 @@ pub use number::answer_number;
 pub use number::fault_number;
 pub use number::refusal_number;
 pub use pushing::batch;
+pub use starting::Name;
 pub use starting::Started;
 pub use starting::start;
 pub use state::Server;

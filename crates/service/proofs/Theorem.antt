@@ -214,6 +214,7 @@ module _ (r : Run) (h : Related r) (t : ℕ) (b : Bytes) (o : List ℕ) (s : ℕ
       let k = carried-kept r h (b .list) (b .small) new e (arrives-new r h b new e) (few-new r h b new e) t b o o refl room in
       rw (k .stores, h .stores, bytes-at r h (b .list) (b .small) new e (arrives-new r h b new e) (few-new r h b new e) o room s, slot-of (getD (r .state .slots) s free) (rw lives at (h .places s)) new)
       (record {
+        written = refl;
         told = pushesIn-push (changes new (view (x .subscriptions) (r .state .store)) (view (x .subscriptions) new))
             (list-sendable r h (b .list) (b .small) new e (arrives-new r h b new e) (few-new r h b new e) (x .subscriptions));
         right = list-for r h b new e (x .subscriptions) .right;

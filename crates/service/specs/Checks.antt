@@ -1,5 +1,5 @@
 -- The checks that calls share, in 01's order: 12, 11, 10, 18.
-use Prim.Native.Nat.{ℕ}
+use Prim.Native.Nat.{ℕ, _*_}
 use mathlib.Core.Bool.{Bool, true, false, cond, _||_}
 use mathlib.Core.Option.{Option, none, some}
 use lib.Dec.{leb, ltb}
@@ -17,7 +17,7 @@ abbrev pub outputSize : ℕ
 outputSize = 16384
 
 abbrev pub leastOutput : ℕ
-leastOutput = 65536
+leastOutput = maxSessions * outputSize
 
 -- 01: "Message: 65,535 bytes."
 abbrev pub maxMessage : ℕ

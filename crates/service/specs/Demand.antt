@@ -11,6 +11,7 @@ use Rattle.zone.specs.Match.{Subscription, view}
 use Rattle.zone.specs.Sound.{Exactly}
 use Rattle.push.specs.Change.{Change}
 use Rattle.push.specs.List.{changes}
+use Rattle.push.specs.Octets.{pushOf}
 use Rattle.push.specs.Measure.{Right}
 use Rattle.service.specs.Answer.{Answer, answerNumber}
 use Rattle.service.specs.State.{State, Slot, free, live}
@@ -58,10 +59,11 @@ isBatch (ticks t) = false
 abbrev pub isDone : Answer → Bool
 isDone a = eqb (answerNumber a) 1 || eqb (answerNumber a) 2
 
--- What a batch tells a client, from the bytes written for its session: "they are the list fixed above, in one PUSH, or none if it
--- is empty"; it is right, and no other list that does the same is shorter. The views are read from the observer, before and
--- after the call.
+-- What a batch tells a client, from the bytes written for its session: each of them; "they are the list fixed above, in one
+-- PUSH, or none if it is empty"; it is right, and no other list that does the same is shorter. The views are read from the
+-- observer, before and after the call.
 pub record Pushed (before after : List Record) (subs : List Subscription) (bytes : List ℕ) : Type 0 where
+  pub written : bytes ≡ pushOf (changes after (view subs before) (view subs after))
   pub told : pushesIn bytes ≡ some (inOne (changes after (view subs before) (view subs after)))
   pub right : Right after (view subs before) (view subs after)
 

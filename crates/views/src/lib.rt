@@ -1,4 +1,5 @@
 // Demand 3 stated about the calls' own promises; and calls in code, one after the other, of which it is proved.
+use server::Name;
 use server::Outcome;
 use server::Server;
 use server::Started;
@@ -10,9 +11,6 @@ use service::Refusal;
 use service::SessionNumber;
 ghost use Rattle.server.specs.Memory.{memoryOf};
 ghost use Rattle.views.specs.Plays.{Continues, Plays};
-
-// The lent memory of the zone's name.
-pub type Name = [u8; 255];
 
 // What an open, a message and a batch gave.
 pub struct Ran {
