@@ -2,4 +2,5 @@
 pub mod Answers
 pub mod Saving
 pub mod Serving
+pub mod Told
 pub mod Runs

@@ -5,9 +5,10 @@ use native.Mathlib.Omega.{arith}
 use mathlib.Core.Bool.{Bool, true, false, cond}
 use mathlib.Core.List.{List}
 use mathlib.Core.Path.{_≡_, refl}
+use lib.ListN.{length}
 use borrow.Author.Tests.{eqb-false}
 use Rattle.wire.specs.Name.{isName}
-use Rattle.service.specs.State.{State}
+use Rattle.service.specs.State.{State, maxSessions}
 use Rattle.service.specs.Call as Call
 use Rattle.service.specs.Call.{Call, outcome}
 use Rattle.service.specs.Observer.{Observer, observe}
@@ -15,9 +16,12 @@ use Rattle.service.specs.Demand.{stepped, Holds}
 use Rattle.service.proofs.Related.{Related}
 use Rattle.service.proofs.Theorem.{begun-related, step-kept, holds-of}
 use Rattle.service.proofs.Numbers.{positive}
-use Rattle.server.specs.Memory.{Memory}
+use Rattle.server.specs.Memory.{Memory, stateOf}
+use Rattle.weavemitten.specs.Values.{valuesOf}
 use Rattle.weavemitten.specs.Calls.{heldBy, Returns, Begins}
+use Rattle.weavemitten.specs.Told.{answerFrom, hasValues}
 use Rattle.weavemitten.specs.Runs.{Lent, lentOf, runOf, Runs, begun, next}
+use Rattle.weavemitten.proofs.Told.{answer-read}
 
 -- ---- no answer is 0
 
@@ -42,17 +46,24 @@ begun-state zone w w′ before m h = go (isName zone) refl
     go true n = rw (n, Call.start, h .begun n m)
     go false n = absurd (eqb-false 1 20 refl (rw n at (h .answer)))
 
+-- Lent words and memory hold four sessions.
+held-four : (w : List ℕ) (m : Memory) → length (heldBy w m .slots) ≡ maxSessions
+unfolding stateOf
+held-four w m = refl
+
 -- A step of the code is a step of the definitions.
-pub same-step : (l : Lent) (o : Observer) (c : Call) (w′ : List ℕ) (after : Memory) (output : List ℕ) (r : ℕ)
+pub same-step : (l : Lent) (o : Observer) (c : Call) (v w′ : List ℕ) (after : Memory) (output : List ℕ) (r : ℕ)
     → Returns (l .words) w′ after output r (outcome (heldBy (l .words) (l .memory)) c)
-    → runOf (lentOf w′ after) (observe c (outcome (heldBy (l .words) (l .memory)) c .answer) output o) ≡ stepped (runOf l o) c
+    → (hasValues c ≡ true → v ≡ valuesOf (outcome (heldBy (l .words) (l .memory)) c .answer))
+    → runOf (lentOf w′ after) (observe c (answerFrom c r v) output o) ≡ stepped (runOf l o) c
 unfolding stepped
-same-step l o c w′ after output r h = rw (h .next, h .output)
+same-step l o c v w′ after output r h g =
+    rw (h .next, h .output, h .answer, answer-read (heldBy (l .words) (l .memory)) (held-four (l .words) (l .memory)) c v g)
 
 pub runs-related : {zone : List ℕ} {l : Lent} {o : Observer} → Runs zone l o → Related (runOf l o)
 runs-related {zone} (begun w w′ before m h) = begun-related zone (heldBy w′ m) (begun-state zone w w′ before m h)
-runs-related (next {l = l} {o = o} past c w′ after output r h) =
-    rw (same-step l o c w′ after output r h) (step-kept (runOf l o) (runs-related past) c)
+runs-related (next {l = l} {o = o} past c v w′ after output r h g) =
+    rw (same-step l o c v w′ after output r h g) (step-kept (runOf l o) (runs-related past) c)
 
 -- Demand 3 in every run of the C service, for every next call whatever its arguments. What that call leaves is the next
 -- step: `same-step`.

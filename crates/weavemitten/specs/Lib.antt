@@ -3,4 +3,5 @@ pub mod Questions
 pub mod Words
 pub mod Values
 pub mod Calls
+pub mod Told
 pub mod Runs

@@ -5,6 +5,7 @@ use crate::values::put;
 use crate::words::Words;
 use crate::words::load;
 use crate::words::save;
+use server::Name;
 use server::Outcome;
 use server::Started;
 use server::answer_number;
@@ -23,9 +24,6 @@ ghost use Rattle.weavemitten.specs.Calls.{heldBy, Keeps, Begins, Returns
 
 // 01: answers 1 to 5 take the time, and 10 to 20 change nothing.
 const LAST_ACCEPTED: u32 = 5;
-
-// The lent memory of the zone's name.
-pub type Name = [u8; 255];
 
 // The numbers of an outcome are kept, unless it is a refusal.
 fn keep(words: &mut Words, outcome: Outcome) -> u32
