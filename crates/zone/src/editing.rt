@@ -253,9 +253,11 @@ fn edit_all(zone: &[u8], bytes: &[u8], count: usize, area: &mut Area) -> BatchRe
     BatchResult::Stored(n)
 }
 
+// Only the blocks in use are copied.
 pub fn batch(zone: &[u8], bytes: &[u8], old: &Area, count: usize, new: &mut Area) -> BatchResult
     ensures { λ r. ⌜ editedOf r (now (new .exit)) ≡ batchOf (now (zone .entry)) (now (bytes .entry)) (recordsOf count (now (old .entry))) ⌝ }
 {
-    wire::write_octets(new, 0, old);
-    edit_all(zone, bytes, clamped(count), new)
+    let n = clamped(count);
+    wire::write_octets(new, 0, part(old, 0, n * BLOCK));
+    edit_all(zone, bytes, n, new)
 }
