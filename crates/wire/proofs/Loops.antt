@@ -1,20 +1,20 @@
 -- How the loops over names go: what a turn and an end say of the whole, from what is left to be looked at.
-use Prim.Native.Nat.{ℕ, suc, _+_, _-_, _≤_, _<_}
+use Prim.Native.Nat.{ℕ, zero, suc, _+_, _-_, _≤_, _<_}
 use mathlib.Core.Path.{_≡_, refl, sym, ap, ap₂, _∙_}
 use mathlib.Core.Bool.{Bool, true, false, cond, _&&_, _||_}
-use mathlib.Core.List.{List, _∷_}
+use mathlib.Core.List.{List, [], _∷_}
 use mathlib.Core.Option.{Option, none, some}
 use native.Mathlib.Numerals.{add-one}
 use native.Mathlib.Omega.{arith}
-use lib.ListN.{length, take, drop, getD, length-take, drop-of-length-le}
+use lib.ListN.{length, take, drop, getD, length-take, length-map, drop-of-length-le}
 use lib.Seq.{drop-cons, drop-drop, getD-take}
 use lib.Dec.{eqb}
 use borrow.Author.Tests.{le-leb, lt-leb, eq-eqb, ne-eqb}
-use Rattle.wire.specs.Name.{maxLabel, maxName, after, labels, nameLength, lower, sameOctets, sameName, endsIn, within}
+use Rattle.wire.specs.Name.{maxLabel, maxName, after, labels, nameLength, lower, lowered, sameOctets, sameName, endsIn, within}
 use Rattle.wire.specs.Reading.{reading, nameFront, nameAt}
 use Rattle.wire.specs.declared.name.NameReading.{NameReading}
 use Rattle.wire.specs.declared.name.NameReading.the-variants.{Name, NoName}
-use Rattle.wire.proofs.Names.{after-zero, after-after, labels-drop, sameOctets-true, sameName-length, endsIn-drop}
+use Rattle.wire.proofs.Names.{after-zero, after-after, labels-drop, lowered-at, lowered-take, lowered-drop, sameOctets-true, sameName-of, sameName-length, endsIn-drop}
 use Rattle.wire.proofs.Writes.{drop-slice}
 
 true-false : (t : Bool) → (t ≡ true → ⊥) → false ≡ t
@@ -79,86 +79,6 @@ nameAt-slice s at r e = e ∙ ap nameFront (drop-slice s at)
 
 -- ---- octets side by side
 
-pub record Same (a b : List ℕ) (i : ℕ) : Type 0 where
-  pub long : length a ≡ length b
-  pub rest : sameOctets a b ≡ sameOctets (drop i a) (drop i b)
-
-pub same-none : (a b : List ℕ) → length a ≡ length b → Same a b 0
-same-none a b h = record { long = h; rest = refl }
-
-pub other-length : (a b : List ℕ) → (length a ≡ length b → ⊥) → false ≡ sameOctets a b
-other-length a b h = true-false (sameOctets a b) (λ e. h (ap length (sameOctets-true a b e)))
-
-module _ (a b : List ℕ) (i : ℕ) (r : Same a b i) where
-  pub same-end : length a ≤ i → true ≡ sameOctets a b
-  unfolding sameOctets
-  same-end h =
-      let k : length b ≤ i = omega (arith, r .long) in
-      sym (r .rest ∙ ap₂ sameOctets (drop-of-length-le a h) (drop-of-length-le b k))
-
-  next-octet : i < length a → sameOctets a b ≡ eqb (getD a i 0) (getD b i 0) && sameOctets (drop (suc i) a) (drop (suc i) b)
-  unfolding sameOctets
-  next-octet h =
-      let k : i < length b = omega (arith, r .long) in
-      r .rest ∙ ap₂ sameOctets (drop-cons a i 0 h) (drop-cons b i 0 k)
-
-  pub same-turn : i < length a → getD a i 0 ≡ getD b i 0 → Same a b (i + 1)
-  same-turn h e =
-      record {
-        long = r .long;
-        rest = rw (next-octet h, eq-eqb (getD a i 0) (getD b i 0) e, add-one i);
-      }
-
-  pub other-octet : i < length a → (getD a i 0 ≡ getD b i 0 → ⊥) → false ≡ sameOctets a b
-  other-octet h e = rw (next-octet h, ne-eqb (getD a i 0) (getD b i 0) e)
-
--- ---- two names side by side
-
-pub record Alike (a b : List ℕ) (i : ℕ) : Type 0 where
-  pub long : length a ≡ length b
-  pub rest : sameName a b ≡ sameName (drop i a) (drop i b)
-
-pub alike-none : (a b : List ℕ) → length a ≡ length b → Alike a b 0
-alike-none a b h = record { long = h; rest = refl }
-
-pub unlike-length : (a b : List ℕ) → (length a ≡ length b → ⊥) → false ≡ sameName a b
-unlike-length a b h = true-false (sameName a b) (λ e. h (sameName-length a b e))
-
-module _ (a b : List ℕ) (i : ℕ) (r : Alike a b i) where
-  pub alike-end : length a ≤ i → true ≡ sameName a b
-  unfolding sameName sameOctets
-  alike-end h =
-      let k : length b ≤ i = omega arith in
-      sym (r .rest ∙ ap₂ (λ (x y : List ℕ). sameName x y) (drop-of-length-le a h) (drop-of-length-le b k))
-
-  turn : i < length a → sameName a b ≡ eqb (lower (getD a i 0)) (lower (getD b i 0)) && sameName (drop (suc i) a) (drop (suc i) b)
-  unfolding sameName sameOctets
-  turn h =
-      let k : i < length b = omega arith in
-      r .rest ∙ ap₂ (λ (x y : List ℕ). sameName x y) (drop-cons a i 0 h) (drop-cons b i 0 k)
-
-  pub alike-turn : i < length a → lower (getD a i 0) ≡ lower (getD b i 0) → Alike a b (i + 1)
-  alike-turn h e = record {
-    long = r .long;
-    rest = turn h ∙ ap (λ (t : Bool). t && sameName (drop (suc i) a) (drop (suc i) b)) (eq-eqb (lower (getD a i 0)) (lower (getD b i 0)) e)
-        ∙ ap (λ (j : ℕ). sameName (drop j a) (drop j b)) (sym (add-one i));
-  }
-
-  pub alike-rest : (t : Bool) → t ≡ sameName (drop i a) (drop i b) → t ≡ sameName a b
-  alike-rest t e = e ∙ sym (r .rest)
-
-  pub unlike-octet : i < length a → (lower (getD a i 0) ≡ lower (getD b i 0) → ⊥) → false ≡ sameName a b
-  unlike-octet h e =
-      sym (turn h ∙ ap (λ (t : Bool). t && sameName (drop (suc i) a) (drop (suc i) b)) (ne-eqb (lower (getD a i 0)) (lower (getD b i 0)) e))
-
--- What was gathered from a place on, octet by octet, and what is left.
-pub record Gathered (a b : List ℕ) (from : ℕ) (same : Bool) (i : ℕ) : Type 0 where
-  pub long : length a ≡ length b
-  pub whole : sameName (drop from a) (drop from b) ≡ same && sameName (drop i a) (drop i b)
-
-pub gathered-none : (a b : List ℕ) (from : ℕ) → length a ≡ length b → Gathered a b from true from
-gathered-none a b from h = record { long = h; whole = refl }
-
 and-and : (x y z : Bool) → x && (y && z) ≡ x && y && z
 and-and true y z = refl
 and-and false y z = refl
@@ -167,24 +87,128 @@ and-true : (x : Bool) → x && true ≡ x
 and-true true = refl
 and-true false = refl
 
-module _ (a b : List ℕ) (from : ℕ) (same : Bool) (i : ℕ) (r : Gathered a b from same i) where
-  pub gathered-turn : (x y : ℕ) → x ≡ lower (getD a i 0) → y ≡ lower (getD b i 0) → i < length a → Gathered a b from (same && eqb x y) (i + 1)
-  unfolding sameName sameOctets
-  gathered-turn x y ex ey h =
-      let k : i < length b = omega (arith, r .long) in
-      record {
-        long = r .long;
-        whole = r .whole ∙ ap₂ (λ (v w : List ℕ). same && sameName v w) (drop-cons a i 0 h) (drop-cons b i 0 k)
-            ∙ ap₂ (λ (v w : ℕ). same && (eqb v w && sameName (drop (suc i) a) (drop (suc i) b))) (sym ex) (sym ey)
-            ∙ and-and same (eqb x y) (sameName (drop (suc i) a) (drop (suc i) b))
-            ∙ ap (λ (j : ℕ). same && eqb x y && sameName (drop j a) (drop j b)) (sym (add-one i));
-      }
+-- Two lists are equal where their fronts are and what lies behind is.
+sameOctets-parts : (n : ℕ) (x y : List ℕ) → sameOctets x y ≡ sameOctets (take n x) (take n y) && sameOctets (drop n x) (drop n y)
+unfolding sameOctets
+sameOctets-parts zero x y = refl
+sameOctets-parts (suc n) [] [] = refl
+sameOctets-parts (suc n) [] (b ∷ y) = refl
+sameOctets-parts (suc n) (a ∷ x) [] = refl
+sameOctets-parts (suc n) (a ∷ x) (b ∷ y) =
+    ap (λ (t : Bool). eqb a b && t) (sameOctets-parts n x y)
+    ∙ and-and (eqb a b) (sameOctets (take n x) (take n y)) (sameOctets (drop n x) (drop n y))
 
-  pub gathered-end : length a ≤ i → same ≡ sameName (drop from a) (drop from b)
-  unfolding sameName sameOctets
-  gathered-end h =
-      let k : length b ≤ i = omega (arith, r .long) in
-      sym (r .whole ∙ ap₂ (λ (x y : List ℕ). same && sameName x y) (drop-of-length-le a h) (drop-of-length-le b k) ∙ and-true same)
+-- i octets are passed, and `same` says whether they were equal.
+pub record Compared (x y : List ℕ) (same : Bool) (i : ℕ) : Type 0 where
+  pub long : length x ≡ length y
+  pub whole : sameOctets x y ≡ same && sameOctets (drop i x) (drop i y)
+
+pub compared-none : (x y : List ℕ) → length x ≡ length y → Compared x y true 0
+compared-none x y h = record { long = h; whole = refl }
+
+module _ (x y : List ℕ) (same : Bool) (i : ℕ) (r : Compared x y same i) where
+  passed-part : (w : ℕ) (t : Bool) → t ≡ sameOctets (take w (drop i x)) (take w (drop i y)) → Compared x y (same && t) (i + w)
+  passed-part w t e = record {
+    long = r .long;
+    whole = r .whole ∙ ap (λ (u : Bool). same && u) (sameOctets-parts w (drop i x) (drop i y))
+        ∙ ap (λ (u : Bool). same && (u && sameOctets (drop w (drop i x)) (drop w (drop i y)))) (sym e)
+        ∙ ap₂ (λ (v u : List ℕ). same && (t && sameOctets v u)) (drop-drop w i x) (drop-drop w i y)
+        ∙ and-and same t (sameOctets (drop (i + w) x) (drop (i + w) y));
+  }
+
+  -- A part of one octet.
+  pub compared-octet : (u v : ℕ) → u ≡ getD x i 0 → v ≡ getD y i 0 → i < length x → Compared x y (same && eqb u v) (i + 1)
+  unfolding sameOctets
+  compared-octet u v eu ev h =
+      let k : i < length y = omega (arith, r .long) in
+      passed-part 1 (eqb u v)
+      (sym (ap₂ (λ (l m : List ℕ). sameOctets (take 1 l) (take 1 m)) (drop-cons x i 0 h) (drop-cons y i 0 k)
+      ∙ and-true (eqb (getD x i 0) (getD y i 0)) ∙ ap₂ eqb (sym eu) (sym ev)))
+
+  pub compared-end : length x ≤ i → same ≡ sameOctets x y
+  unfolding sameOctets
+  compared-end h =
+      let k : length y ≤ i = omega (arith, r .long) in
+      sym (r .whole ∙ ap₂ (λ (l m : List ℕ). same && sameOctets l m) (drop-of-length-le x h) (drop-of-length-le y k) ∙ and-true same)
+
+each-other : (s t a b : Bool) → s ≡ a && t → t ≡ b && s → t ≡ s
+each-other true true a b p q = refl
+each-other false false a b p q = refl
+each-other true false true b p q = sym p
+each-other true false false b p q = sym p
+each-other false true a true p q = q
+each-other false true a false p q = q
+
+-- A part of w octets, as the code lends it.
+module _ (x y : List ℕ) (i : ℕ) (r : Compared x y true i) where
+  lent-part : (w : ℕ) (t : Bool) → t ≡ sameOctets (take (i + w - i) (drop i x)) (take (i + w - i) (drop i y)) → Compared x y t (i + w)
+  lent-part w t e =
+      let n : i + w - i ≡ w = omega arith in
+      passed-part x y true i r w t (e ∙ ap (λ (k : ℕ). sameOctets (take k (drop i x)) (take k (drop i y))) n)
+
+  pub same-lent : (w : ℕ) → true ≡ sameOctets (take (i + w - i) (drop i x)) (take (i + w - i) (drop i y)) → Compared x y true (i + w)
+  same-lent w e = lent-part w true e
+
+  pub unlike-lent : (w : ℕ) → false ≡ sameOctets (take (i + w - i) (drop i x)) (take (i + w - i) (drop i y)) → false ≡ sameOctets x y
+  unlike-lent w e = sym (lent-part w false e .whole)
+
+  -- The last part begins among the octets that are passed, or right behind them.
+  pub last-part : (at : ℕ) (t : Bool) → t ≡ sameOctets (drop at x) (drop at y) → at ≤ i → t ≡ sameOctets x y
+  last-part at t e h =
+      let k : at + (i - at) ≡ i = omega arith in
+      let d : (l : List ℕ) → drop (i - at) (drop at l) ≡ drop i l = λ l. drop-drop (i - at) at l ∙ ap (λ (n : ℕ). drop n l) k in
+      let f : Bool = sameOctets (take at x) (take at y) in
+      let g : Bool = sameOctets (take (i - at) (drop at x)) (take (i - at) (drop at y)) in
+      each-other (sameOctets x y) t f g
+      (sameOctets-parts at x y ∙ ap (λ (u : Bool). f && u) (sym e))
+      (e ∙ sameOctets-parts (i - at) (drop at x) (drop at y) ∙ ap (λ (u : Bool). g && u) (ap₂ sameOctets (d x) (d y) ∙ sym (r .whole)))
+
+pub rest-slice : (a b : List ℕ) (at : ℕ) (t : Bool)
+    → t ≡ sameOctets (take (length a - at) (drop at a)) (take (length b - at) (drop at b)) → t ≡ sameOctets (drop at a) (drop at b)
+rest-slice a b at t e = e ∙ ap₂ sameOctets (drop-slice a at) (drop-slice b at)
+
+pub unlike-length : (x y : List ℕ) → (length x ≡ length y → ⊥) → false ≡ sameOctets x y
+unlike-length x y h = true-false (sameOctets x y) (λ e. h (ap length (sameOctets-true x y e)))
+
+-- ---- two names side by side: their lowered octets are
+
+pub alike-none : (a b : List ℕ) → length a ≡ length b → Compared (lowered a) (lowered b) true 0
+alike-none a b h = compared-none (lowered a) (lowered b) (length-map a lower ∙ h ∙ sym (length-map b lower))
+
+pub alike-octet : (a b : List ℕ) (same : Bool) (i : ℕ) → Compared (lowered a) (lowered b) same i
+    → (u v : ℕ) → u ≡ lower (getD a i 0) → v ≡ lower (getD b i 0) → i < length a → Compared (lowered a) (lowered b) (same && eqb u v) (i + 1)
+alike-octet a b same i r u v eu ev h =
+    compared-octet (lowered a) (lowered b) same i r u v (eu ∙ sym (lowered-at a i)) (ev ∙ sym (lowered-at b i)) (omega (arith, length-map a lower))
+
+pub alike-end : (a b : List ℕ) (same : Bool) (i : ℕ) → Compared (lowered a) (lowered b) same i → length a ≤ i → same ≡ sameName a b
+unfolding sameName
+alike-end a b same i r h = compared-end (lowered a) (lowered b) same i r (omega (arith, length-map a lower))
+
+pub alike-whole : (a b : List ℕ) → true ≡ sameOctets a b → true ≡ sameName a b
+alike-whole a b e = sym (sameName-of a b (ap lowered (sameOctets-true a b (sym e))))
+
+pub lowered-slice : (a b : List ℕ) (i n : ℕ) (t : Bool) → t ≡ sameName (take n (drop i a)) (take n (drop i b))
+    → t ≡ sameOctets (take n (drop i (lowered a))) (take n (drop i (lowered b)))
+unfolding sameName
+lowered-slice a b i n t e = e ∙ ap₂ sameOctets (cut a) (cut b)
+  where
+    cut : (l : List ℕ) → lowered (take n (drop i l)) ≡ take n (drop i (lowered l))
+    cut l = lowered-take n (drop i l) ∙ ap (take n) (lowered-drop i l)
+
+pub lowered-rest : (a b : List ℕ) (at : ℕ) (t : Bool)
+    → t ≡ sameName (take (length a - at) (drop at a)) (take (length b - at) (drop at b)) → t ≡ sameOctets (drop at (lowered a)) (drop at (lowered b))
+unfolding sameName
+lowered-rest a b at t e = e ∙ ap₂ sameOctets (cut a) (cut b)
+  where
+    cut : (l : List ℕ) → lowered (take (length l - at) (drop at l)) ≡ drop at (lowered l)
+    cut l = ap lowered (drop-slice l at) ∙ lowered-drop at l
+
+pub alike-of : (a b : List ℕ) (t : Bool) → t ≡ sameOctets (lowered a) (lowered b) → t ≡ sameName a b
+unfolding sameName
+alike-of a b t e = e
+
+pub unlike-names : (a b : List ℕ) → (length a ≡ length b → ⊥) → false ≡ sameName a b
+unlike-names a b h = true-false (sameName a b) (λ e. h (sameName-length a b e))
 
 -- ---- the labels of a name passed, in search of a zone
 

@@ -7,7 +7,7 @@ use mathlib.Core.Option.{Option, none, some}
 use native.Mathlib.Nat.{zero-add, add-assoc, suc-inj}
 use native.Mathlib.Numerals.{one-add}
 use native.Mathlib.Omega.{arith}
-use lib.ListN.{length, take, drop, length-take, length-drop, length-map}
+use lib.ListN.{length, take, drop, getD, length-take, length-drop, length-map}
 use lib.Seq.{take-take, take-length, take-all, take-append-add, drop-append-seam, length-take-le}
 use lib.Dec.{leb, eqb}
 use borrow.Author.Tests.{leb-true, leb-false, eqb-true, eqb-false, le-leb, lt-leb, eq-eqb, ne-eqb}
@@ -220,6 +220,12 @@ lower-low b c h =
 pub lowered-lowered : (a : List ℕ) → lowered (lowered a) ≡ lowered a
 lowered-lowered [] = refl
 lowered-lowered (b ∷ a) = ap₂ (λ (c : ℕ) (l : List ℕ). c ∷ l) (lower-lower b) (lowered-lowered a)
+
+pub lowered-at : (a : List ℕ) (i : ℕ) → getD (lowered a) i 0 ≡ lower (getD a i 0)
+unfolding lower
+lowered-at [] i = refl
+lowered-at (b ∷ a) zero = refl
+lowered-at (b ∷ a) (suc i) = lowered-at a i
 
 pub lowered-append : (a b : List ℕ) → lowered (a ++ b) ≡ lowered a ++ lowered b
 lowered-append [] b = refl

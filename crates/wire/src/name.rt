@@ -1,6 +1,7 @@
 // Names: reading one, comparing two, and one being at or below another.
+ghost use Prim.Native.Nat.{_≤_};
 ghost use mathlib.Core.Path.{_≡_};
-ghost use lib.ListN.{length, drop};
+ghost use lib.ListN.{length};
 ghost use Rattle.wire.specs.Name.{lower, sameOctets, sameName, within as isWithin};
 ghost use Rattle.wire.specs.Reading.{nameAt, nameFront};
 
@@ -50,22 +51,72 @@ fn lower(b: u8) -> u8
     b
 }
 
-// How many octets are looked at one by one: names of one zone and length mostly differ in their first octets.
-const FRONT: usize = 8;
-
-// From a place on, without leaving early, so that many octets are compared at once.
-fn same_from(a: &[u8], b: &[u8], from: usize) -> bool
+// As they stand, without leaving early: octets of a count that the compiler knows are compared all at once.
+fn same_part(a: &[u8], b: &[u8]) -> bool
     requires { ⌜ length (now a) ≡ length (now b) ⌝ }
-    ensures { λ r. ⌜ r ≡ sameName (drop from (now (a .entry))) (drop from (now (b .entry))) ⌝ }
+    ensures { λ r. ⌜ r ≡ sameOctets (now (a .entry)) (now (b .entry)) ⌝ }
 {
     let mut same = true;
-    let mut i = from;
+    let mut i = 0;
+    while i < a.len() {
+        same = same & (a[i] == b[i]);
+        i += 1;
+    }
+    same
+}
+
+// Likewise but for the case of letters. Names that are the same are mostly so as they stand.
+fn alike_part(a: &[u8], b: &[u8]) -> bool
+    requires { ⌜ length (now a) ≡ length (now b) ⌝ }
+    ensures { λ r. ⌜ r ≡ sameName (now (a .entry)) (now (b .entry)) ⌝ }
+{
+    if same_part(a, b) {
+        return true;
+    }
+    let mut same = true;
+    let mut i = 0;
     while i < a.len() {
         same = same & (lower(a[i]) == lower(b[i]));
         i += 1;
     }
     same
 }
+
+// Part by part, leaving at the first that differs. The last part ends where the octets end, so it may overlap the one before it.
+fn same_parts(a: &[u8], b: &[u8], width: usize) -> bool
+    requires { ⌜ (length (now a) ≡ length (now b)) × (1 ≤ width) × (width ≤ length (now a)) ⌝ }
+    ensures { λ r. ⌜ r ≡ sameOctets (now (a .entry)) (now (b .entry)) ⌝ }
+{
+    let last = a.len() - width;
+    let mut i = 0;
+    while i < last {
+        if !same_part(&a[i..i + width], &b[i..i + width]) {
+            return false;
+        }
+        i += width;
+    }
+    same_part(&a[last..], &b[last..])
+}
+
+fn alike_parts(a: &[u8], b: &[u8], width: usize) -> bool
+    requires { ⌜ (length (now a) ≡ length (now b)) × (1 ≤ width) × (width ≤ length (now a)) ⌝ }
+    ensures { λ r. ⌜ r ≡ sameName (now (a .entry)) (now (b .entry)) ⌝ }
+{
+    let last = a.len() - width;
+    let mut i = 0;
+    while i < last {
+        if !alike_part(&a[i..i + width], &b[i..i + width]) {
+            return false;
+        }
+        i += width;
+    }
+    alike_part(&a[last..], &b[last..])
+}
+
+// The octets of a part, where there are so many; and of one in a short text, such as an address.
+const PART: usize = 16;
+
+const SHORT: usize = 4;
 
 // Octets of unlike length are told apart without looking at them.
 pub fn same_octets(a: &[u8], b: &[u8]) -> bool
@@ -74,14 +125,13 @@ pub fn same_octets(a: &[u8], b: &[u8]) -> bool
     if a.len() != b.len() {
         return false;
     }
-    let mut i = 0;
-    while i < a.len() {
-        if a[i] != b[i] {
-            return false;
-        }
-        i += 1;
+    if PART <= a.len() {
+        return same_parts(a, b, PART);
     }
-    true
+    if SHORT <= a.len() {
+        return same_parts(a, b, SHORT);
+    }
+    same_part(a, b)
 }
 
 // Names of unlike length likewise.
@@ -91,17 +141,13 @@ pub fn same_name(a: &[u8], b: &[u8]) -> bool
     if a.len() != b.len() {
         return false;
     }
-    let mut i = 0;
-    while i < a.len() {
-        if FRONT <= i {
-            return same_from(a, b, i);
-        }
-        if lower(a[i]) != lower(b[i]) {
-            return false;
-        }
-        i += 1;
+    if PART <= a.len() {
+        return alike_parts(a, b, PART);
     }
-    true
+    if SHORT <= a.len() {
+        return alike_parts(a, b, SHORT);
+    }
+    alike_part(a, b)
 }
 
 pub fn within(zone: &[u8], name: &[u8]) -> bool

@@ -7,14 +7,14 @@ use mathlib.Core.Option.{Option, none, some}
 use native.Mathlib.Nat.{min-eq-left}
 use native.Mathlib.Numerals.{one-add}
 use native.Mathlib.Omega.{arith}
-use lib.ListN.{length, getD}
+use lib.ListN.{length, take, drop, getD}
 use lib.Dec.{leb}
 use borrow.Author.Tests.{le-leb, lt-leb}
 use Rattle.wire.specs.Name.{after}
 use Rattle.table.specs.Blocks.{cut}
 use Rattle.zone.specs.Lists.{onlyIf}
 use Rattle.zone.specs.Record.{Record, Key, keyOf, sameKey}
-use Rattle.zone.specs.Store.{find, isSome, held, setIf, put, remove}
+use Rattle.zone.specs.Store.{find, isSome, held, withTtl, setIf, put, remove}
 use Rattle.zone.specs.Sound.{distinct}
 use Rattle.zone.specs.Batch.{maxRecords, maxTtl, isPut, overfull, edit}
 use Rattle.zone.specs.Table.{recordsOf, indexOf, foundAt}
@@ -25,6 +25,7 @@ use Rattle.zone.specs.declared.editing.Applied.the-variants.{Count, Full
 use Rattle.zone.proofs.Stores.{held-cons, none-held, find-alike, find-apart, remove-absent, distinct-head, distinct-tail}
 use Rattle.zone.proofs.Keys.{sameKey-true}
 use Rattle.zone.proofs.Memory.{noRecord, length-records}
+use Rattle.zone.proofs.Updates.{Timed}
 
 -- ---- the index of a key
 
@@ -90,7 +91,33 @@ remove-index k (r ∷ l) i d e = go (first k r l i e) (λ j. remove-index k l j 
         kept true h ∙ remove-absent k l (ap (λ (k : Key). held k l) (sym (sameKey-true (keyOf r) k h)) ∙ distinct-head r l d)
     go (later {j} h g) f = kept false h ∙ ap (λ (m : List Record). r ∷ m) (f j g)
 
+-- The records before the index keep their TTL, so the loop that sets TTLs may begin there.
+before-index : (k : Key) (t : ℕ) (l : List Record) (i : ℕ) → indexOf k l ≡ some i
+    → (i ≤ length l) × (map (setIf k t) l ≡ take i l ++ map (setIf k t) (drop i l))
+before-index k t [] i e = never k i e
+before-index k t (r ∷ l) i e = go (first k r l i e) (before-index k t l)
+  where
+    go : {i : ℕ} → First k r l i
+        → ((j : ℕ) → indexOf k l ≡ some j → (j ≤ length l) × (map (setIf k t) l ≡ take j l ++ map (setIf k t) (drop j l)))
+        → (i ≤ length (r ∷ l)) × (map (setIf k t) (r ∷ l) ≡ take i (r ∷ l) ++ map (setIf k t) (drop i (r ∷ l)))
+    go (here h) f = (omega arith, refl)
+    go (later {j} h g) f =
+        let p = f j g in
+        (omega arith, ap₂ (λ (b : Bool) (m : List Record). cond b (withTtl t r) r ∷ m) h (p .1))
+
+pub timed-from : (k : Key) (t n : ℕ) (a : List ℕ) (i : ℕ) → n ≤ maxRecords → indexOf k (recordsOf n a) ≡ some i → Timed k t n a a i
+timed-from k t n a i h e =
+    let p = before-index k t (recordsOf n a) i e in
+    record { few = omega (arith, length-records n a, min-eq-left h); store = p .1 }
+
 module _ (k : Key) (l : List Record) (f : Found) (e : f ≡ foundAt (indexOf k l)) where
+  pub found-index : (i : ℕ) → f ≡ At i → indexOf k l ≡ some i
+  found-index i g = go (indexOf k l) (sym e ∙ g)
+    where
+      go : (o : Option ℕ) → foundAt o ≡ At i → o ≡ some i
+      go none h = let z : _≡_ {A = ℕ} 0 1 = cc in absurd (omega arith)
+      go (some j) h = cc
+
   pub found-held : (i : ℕ) → f ≡ At i → held k l ≡ true
   found-held i g = held-index k l ∙ go (indexOf k l) refl
     where

@@ -1,22 +1,23 @@
 -- Laws of the steps of a batch in lent memory, and of the loop over them.
-use Prim.Native.Nat.{ℕ, suc, min, _+_, _-_, _≤_, _<_}
+use Prim.Native.Nat.{ℕ, suc, min, _+_, _-_, _*_, _≤_, _<_}
 use mathlib.Core.Path.{_≡_, refl, sym, ap, ap₂, _∙_}
 use mathlib.Core.Bool.{Bool, true, false, cond}
 use mathlib.Core.List.{List, map}
 use mathlib.Core.Option.{Option, none, some}
 use native.Mathlib.Nat.{min-eq-left, min-le-right}
 use native.Mathlib.Omega.{arith}
-use lib.ListN.{length, drop, length-drop, drop-of-length-le}
-use lib.Seq.{sets, length-sets, drop-drop, take-all}
+use lib.ListN.{length, take, drop, length-drop, drop-of-length-le}
+use lib.Seq.{sets, drop-drop, length-take-le}
 use Rattle.wire.specs.Part.{part}
 use Rattle.wire.specs.Name.{maxName}
 use Rattle.wire.proofs.Names.{nameLength-max}
 use Rattle.wire.proofs.Writes.{take-written}
 use Rattle.table.specs.Blocks.{blocks}
+use Rattle.table.proofs.Blocks.{blocks-front}
 use Rattle.zone.specs.Record.{Record}
 use Rattle.zone.specs.Layout.{fixedSize, size, readRecord}
 use Rattle.zone.specs.Batch.{maxRecords, maxEdits, maxRdata, allowed, overfull, edit, Edited, faulty, edited, batchOf}
-use Rattle.zone.specs.Table.{blockSize, recOf, recordsOf, recordFrom}
+use Rattle.zone.specs.Table.{blockSize, areaSize, recOf, recordsOf, recordFrom}
 use Rattle.zone.specs.Edit.{editOf, recordOf, checkedAt}
 use Rattle.zone.specs.Update.{storeOf, countOf, applied}
 use Rattle.zone.specs.Batches.{onward, counted, Steps, editedOf}
@@ -204,17 +205,29 @@ module _ (zone bytes : List ℕ) (store : List Record) (left at n : ℕ) (area :
 
 -- ---- the copy that a batch begins with
 
-pub copied : (new old a : List ℕ) → length new ≡ length old → a ≡ sets new 0 old → a ≡ old
-copied new old a l e =
-    e ∙ sym (take-all (length old) (sets new 0 old) (omega (arith, length-sets new 0 old))) ∙ take-written new old (omega arith)
+-- The blocks in use are copied whole, so their records are.
+copied : (new old a : List ℕ) (n : ℕ) → n ≤ maxRecords → areaSize ≤ length new → areaSize ≤ length old
+    → a ≡ sets new 0 (part old 0 (n * blockSize)) → recordsOf n a ≡ recordsOf n old
+unfolding recordsOf
+copied new old a n h k l e =
+    let v : List ℕ = take (n * blockSize) old in
+    let w : length v ≡ n * blockSize = length-take-le (n * blockSize) old (omega arith) in
+    let m : min n maxRecords ≡ n = min-eq-left h in
+    let f : take (n * blockSize) a ≡ v =
+    ap (take (n * blockSize)) e ∙ ap (λ (j : ℕ). take j (sets new 0 v)) (sym w) ∙ take-written new v (omega arith) in
+    ap (map recOf) (ap (λ (j : ℕ). blocks blockSize j a) m
+    ∙ sym (blocks-front blockSize n (n * blockSize) a (omega arith)) ∙ ap (blocks blockSize n) f
+    ∙ blocks-front blockSize n (n * blockSize) old (omega arith) ∙ ap (λ (j : ℕ). blocks blockSize j old) (sym m))
 
-pub records-clamped : (count n : ℕ) (a : List ℕ) → n ≡ min count maxRecords → recordsOf n a ≡ recordsOf count a
+records-clamped : (count n : ℕ) (a : List ℕ) → n ≡ min count maxRecords → recordsOf n a ≡ recordsOf count a
 unfolding recordsOf
 records-clamped count n a e =
     let h : n ≤ maxRecords = omega (arith, min-le-right count maxRecords) in
     ap (λ (m : ℕ). map recOf (blocks blockSize m a)) (min-eq-left h ∙ e)
 
-pub batched : (zone bytes new old : List ℕ) (count n : ℕ) (a : List ℕ) (x : Edited) → length new ≡ length old → a ≡ sets new 0 old
-    → n ≡ min count maxRecords → x ≡ batchOf zone bytes (recordsOf n a) → x ≡ batchOf zone bytes (recordsOf count old)
-batched zone bytes new old count n a x l e f g =
-    g ∙ ap (batchOf zone bytes) (records-clamped count n a f ∙ ap (recordsOf count) (copied new old a l e))
+pub batched : (zone bytes new old used a : List ℕ) (count n : ℕ) (x : Edited) → length new ≡ areaSize → length old ≡ areaSize
+    → n ≡ min count maxRecords → used ≡ part old 0 (n * blockSize) → a ≡ sets new 0 used
+    → x ≡ batchOf zone bytes (recordsOf n a) → x ≡ batchOf zone bytes (recordsOf count old)
+batched zone bytes new old used a count n x k l f u e g =
+    let h : n ≤ maxRecords = omega (arith, min-le-right count maxRecords) in
+    g ∙ ap (batchOf zone bytes) (copied new old a n h (omega arith) (omega arith) (e ∙ ap (sets new 0) u) ∙ records-clamped count n old f)

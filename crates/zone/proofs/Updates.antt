@@ -120,9 +120,6 @@ pub record Timed (k : Key) (t n : ℕ) (a b : List ℕ) (i : ℕ) : Type 0 where
   pub few : i ≤ n
   pub store : map (setIf k t) (recordsOf n a) ≡ take i (recordsOf n b) ++ map (setIf k t) (drop i (recordsOf n b))
 
-pub timed-none : (k : Key) (t n : ℕ) (a : List ℕ) → Timed k t n a a 0
-timed-none k t n a = record { few = omega arith; store = refl }
-
 pub timed-turn : (k : Key) (t n : ℕ) (a b : List ℕ) (i : ℕ) (c : List ℕ) → Timed k t n a b i → n ≤ maxRecords → i < n
     → TtlSetIf k t b i c → Timed k t n a c (i + 1)
 timed-turn k t n a b i c s h g e =

@@ -22,12 +22,13 @@ use table::part;
 ghost use Prim.Native.Nat.{_+_, _-_, _≤_, _<_};
 ghost use mathlib.Core.Path.{_≡_};
 ghost use mathlib.Core.List.{[], _∷_, _++_, map};
+ghost use mathlib.Core.Option.{some};
 ghost use lib.ListN.{length};
 ghost use Rattle.table.specs.Blocks.{cut};
 ghost use Rattle.wire.specs.Name.{maxName};
 ghost use Rattle.zone.specs.Store.{setIf, remove as removed};
 ghost use Rattle.zone.specs.Batch.{maxRecords, maxRdata, maxTtl, batchOf};
-ghost use Rattle.zone.specs.Table.{blockSize, areaSize, recordsOf, recordFrom, keyFrom};
+ghost use Rattle.zone.specs.Table.{blockSize, areaSize, recordsOf, recordFrom, keyFrom, indexOf};
 ghost use Rattle.zone.specs.Update.{TtlSet, TtlSetIf, DroppedIf, AppliedAs, numbered};
 ghost use Rattle.zone.specs.Batches.{Steps, editedOf};
 
@@ -55,20 +56,21 @@ fn set_ttl_if(
     }
 }
 
-// The TTL of every record with a key.
+// The TTL of every record with a key, from the first of them on.
 fn set_ttls(
     area: &mut Area,
     n: usize,
+    first: usize,
     name: &[u8],
     rrtype: u16,
     rrclass: u16,
     rdata: &[u8],
     ttl: u32,
 )
-    requires { ⌜ n ≤ maxRecords ⌝ }
+    requires { ⌜ (n ≤ maxRecords) × (indexOf (keyFrom (now name) rrtype rrclass (now rdata)) (recordsOf n (now area)) ≡ some first) ⌝ }
     ensures { λ _. ⌜ recordsOf n (now (area .exit)) ≡ map (setIf (keyFrom (now (name .entry)) rrtype rrclass (now (rdata .entry))) ttl) (recordsOf n (now (area .entry))) ⌝ }
 {
-    let mut i = 0;
+    let mut i = first;
     while i < n {
         set_ttl_if(area, i, name, rrtype, rrclass, rdata, ttl);
         i += 1;
@@ -163,8 +165,8 @@ fn put(
     requires { ⌜ (n ≤ maxRecords) × (length (now name) ≤ maxName) × (length (now rdata) ≤ maxRdata) × (ttl ≤ maxTtl) ⌝ }
     ensures { λ r. ⌜ AppliedAs (now (area .entry)) n (recordFrom (now (name .entry)) rrtype rrclass ttl (now (rdata .entry))) r (now (area .exit)) ⌝ }
 {
-    if let Found::At(_) = find(area, n, name, rrtype, rrclass, rdata) {
-        set_ttls(area, n, name, rrtype, rrclass, rdata, ttl);
+    if let Found::At(i) = find(area, n, name, rrtype, rrclass, rdata) {
+        set_ttls(area, n, i, name, rrtype, rrclass, rdata, ttl);
         return Applied::Count(n);
     }
     if RECORDS <= n {
@@ -253,9 +255,11 @@ fn edit_all(zone: &[u8], bytes: &[u8], count: usize, area: &mut Area) -> BatchRe
     BatchResult::Stored(n)
 }
 
+// Only the blocks in use are copied.
 pub fn batch(zone: &[u8], bytes: &[u8], old: &Area, count: usize, new: &mut Area) -> BatchResult
     ensures { λ r. ⌜ editedOf r (now (new .exit)) ≡ batchOf (now (zone .entry)) (now (bytes .entry)) (recordsOf count (now (old .entry))) ⌝ }
 {
-    wire::write_octets(new, 0, old);
-    edit_all(zone, bytes, clamped(count), new)
+    let n = clamped(count);
+    wire::write_octets(new, 0, part(old, 0, n * BLOCK));
+    edit_all(zone, bytes, n, new)
 }
