@@ -6,10 +6,9 @@ use lib.ListN.{drop, getD}
 use lib.Dec.{leb, eqb}
 use Rattle.zone.specs.Lists.{onlyIf, anyOf}
 use Rattle.zone.specs.Record.{Record, Key, keyOf}
-use Rattle.zone.specs.Store.{find, held}
-use Rattle.zone.specs.Match.{Subscription, wanted}
+use Rattle.zone.specs.Match.{Subscription, view}
 use Rattle.push.specs.Change.{Removal, single, rrset, allTypes, allClasses, Change, addition, removal, covers}
-use Rattle.push.specs.List.{singleAt, rrsetAt, allTypesAt, allClassesAt, hasTtl, chosen, firsts}
+use Rattle.push.specs.List.{singleAt, rrsetAt, allTypesAt, allClassesAt, chosen, firsts, removals, additions}
 
 -- ---- the kinds of removals
 
@@ -89,18 +88,16 @@ kindMark store gone mark r = cond (isMarked mark) (kindOf (chosen store gone r) 
 abbrev pub sent : List Record → List Record → List Removal
 sent store gone = map (chosen store gone) (firsts (chosen store gone) [] gone)
 
--- ---- which records are marked
-
-unfoldable pub butNot : Bool → Bool → Bool
-butNot a b = a && not b
-
--- A record of the old store leaves a session's view.
-abbrev pub leaves : List Subscription → List Record → Record → Bool
-leaves subs new r = butNot (wanted subs r) (held (keyOf r) new)
-
--- A record of the new store enters a session's view, or has a new TTL.
-abbrev pub enters : List Subscription → List Record → Record → Bool
-enters subs old r = butNot (wanted subs r) (hasTtl (find (keyOf r) old) (r .ttl))
-
+-- The mark of a record that passes a test.
 unfoldable pub bit : Bool → ℕ
 bit b = cond b 1 0
+
+-- That of a record that fails it.
+unfoldable pub bitUnless : Bool → ℕ
+bitUnless b = bit (not b)
+
+-- ---- what a session is sent
+
+-- Where some records leave the store and others are fresh in it: the changes of those that the subscriptions match.
+unfoldable pub changesFor : List Subscription → List Record → List Record → List Record → List Change
+changesFor subs store gone fresh = removals store (view subs gone) ++ additions (view subs fresh)

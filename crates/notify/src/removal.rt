@@ -15,7 +15,7 @@ pub const ALL_TYPES: u8 = 2;
 pub const ALL_CLASSES: u8 = 3;
 
 // Whether two blocks hold the same record, TTL and spelling apart.
-fn same_record(a: &[u8], b: &[u8]) -> bool
+pub fn same_record(a: &[u8], b: &[u8]) -> bool
     ensures { λ r. ⌜ r ≡ sameKey (keyOf (recOf (now (a .entry)))) (keyOf (recOf (now (b .entry)))) ⌝ }
 {
     zone::has_key(
