@@ -4,6 +4,7 @@ use mathlib.Core.Path.{_≡_, refl, sym, ap, ap₂, _∙_}
 use mathlib.Core.Bool.{Bool, true, false, cond, not, _&&_}
 use mathlib.Core.List.{List, [], _∷_, _++_, map, map-append, append-nil}
 use native.Mathlib.Omega.{arith}
+use lib.Dec.{eqb}
 use lib.ListN.{length, take, drop}
 use Rattle.zone.specs.Lists.{onlyIf, anyOf}
 use Rattle.zone.specs.Record.{Record, keyOf}
@@ -12,6 +13,7 @@ use Rattle.zone.specs.Table.{recordsOf}
 use Rattle.zone.proofs.Lists.{anyOf-of-map}
 use Rattle.push.specs.Change.{Removal, single, rrset, allTypes, allClasses, covers, isTrue}
 use Rattle.push.specs.List.{singleAt, rrsetAt, allTypesAt, allClassesAt, widest, alike, chosen, firsts}
+use Rattle.push.proofs.Covers.{at, isTrue-at}
 use Rattle.push.proofs.Plains.{chosen-cases}
 use Rattle.notify.specs.Marks.{removalAt, kindOf, isMarked, firstMark, markedBy, marked, removalOf, isHead, kindMark, heads, sent}
 use Rattle.notify.proofs.Marked.{zipped, Filling, filling-all, mark-none, mark-some}
@@ -35,34 +37,48 @@ chosen-at store gone r = chosen-cases (λ (m : Removal). removalAt (kindOf m) r 
 
 -- ---- the choice
 
-module _ (store gone : List Record) (r : Record) (t : Bool) (e : t ≡ isTrue store (removalAt 1 r)) where
-  pub chosen-single : t ≡ false → 0 ≡ kindOf (chosen store gone r)
-  unfolding chosen removalAt kindOf
-  chosen-single g = rw (sym e ∙ g)
+-- The RRset is gone where the widest true removal is collective.
+set-gone : (store : List Record) (r : Record) → isTrue store (rrsetAt r) ≡ not (eqb (kindOf (widest store r)) 0)
+unfolding widest kindOf
+set-gone store r = go (isTrue store (at 0 r)) refl (isTrue store (at 1 r)) refl (isTrue store (at 2 r)) refl
+  where
+    go : (x : Bool) → isTrue store (at 0 r) ≡ x → (y : Bool) → isTrue store (at 1 r) ≡ y → (z : Bool) → isTrue store (at 2 r) ≡ z
+        → z ≡ not (eqb (kindOf (cond x (allClassesAt r) (cond y (allTypesAt r) (cond z (rrsetAt r) (singleAt r))))) 0)
+    go true p y q z u = sym u ∙ isTrue-at store 0 2 r (omega arith) p
+    go false p true q z u = sym u ∙ isTrue-at store 1 2 r (omega arith) q
+    go false p false q true u = refl
+    go false p false q false u = refl
 
-  module _ (g : t ≡ true) (w : ℕ) (f : w ≡ kindOf (widest store r)) where
-    wide : removalAt w r ≡ widest store r
-    wide = ap (λ (k : ℕ). removalAt k r) f ∙ widest-at store r
+module _ (store gone : List Record) (r : Record) (w : ℕ) (f : w ≡ kindOf (widest store r)) where
+  gone-set : isTrue store (rrsetAt r) ≡ isMarked w
+  gone-set = set-gone store r ∙ ap isMarked (sym f)
 
-    module _ (u : Bool) (h : u ≡ alike gone (removalAt 1 r) (removalAt w r)) where
-      set-alike : alike gone (removalAt 1 r) (widest store r) ≡ u
-      set-alike = sym (h ∙ ap (alike gone (removalAt 1 r)) wide)
+  pub chosen-single : w ≡ 0 → 0 ≡ kindOf (chosen store gone r)
+  unfolding chosen kindOf
+  chosen-single g = rw (gone-set ∙ mark-none w g)
 
-      pub chosen-set : u ≡ true → 1 ≡ kindOf (chosen store gone r)
+  wide : removalAt w r ≡ widest store r
+  wide = ap (λ (k : ℕ). removalAt k r) f ∙ widest-at store r
+
+  module _ (g : w ≡ 0 → ⊥) (u : Bool) (h : u ≡ alike gone (removalAt 1 r) (removalAt w r)) where
+    set-alike : alike gone (removalAt 1 r) (widest store r) ≡ u
+    set-alike = sym (h ∙ ap (alike gone (removalAt 1 r)) wide)
+
+    pub chosen-set : u ≡ true → 1 ≡ kindOf (chosen store gone r)
+    unfolding chosen removalAt kindOf
+    chosen-set k = rw (gone-set ∙ mark-some w g, set-alike ∙ k)
+
+    module _ (k : u ≡ false) (v : Bool) (i : v ≡ alike gone (removalAt 2 r) (removalAt w r)) where
+      types-alike : alike gone (removalAt 2 r) (widest store r) ≡ v
+      types-alike = sym (i ∙ ap (alike gone (removalAt 2 r)) wide)
+
+      pub chosen-types : v ≡ true → 2 ≡ kindOf (chosen store gone r)
       unfolding chosen removalAt kindOf
-      chosen-set k = rw (sym e ∙ g, set-alike ∙ k)
+      chosen-types j = rw (gone-set ∙ mark-some w g, set-alike ∙ k, types-alike ∙ j)
 
-      module _ (k : u ≡ false) (v : Bool) (i : v ≡ alike gone (removalAt 2 r) (removalAt w r)) where
-        types-alike : alike gone (removalAt 2 r) (widest store r) ≡ v
-        types-alike = sym (i ∙ ap (alike gone (removalAt 2 r)) wide)
-
-        pub chosen-types : v ≡ true → 2 ≡ kindOf (chosen store gone r)
-        unfolding chosen removalAt kindOf
-        chosen-types j = rw (sym e ∙ g, set-alike ∙ k, types-alike ∙ j)
-
-        pub chosen-classes : v ≡ false → 3 ≡ kindOf (chosen store gone r)
-        unfolding chosen removalAt kindOf
-        chosen-classes j = rw (sym e ∙ g, set-alike ∙ k, types-alike ∙ j)
+      pub chosen-classes : v ≡ false → 3 ≡ kindOf (chosen store gone r)
+      unfolding chosen removalAt kindOf
+      chosen-classes j = rw (gone-set ∙ mark-some w g, set-alike ∙ k, types-alike ∙ j)
 
 -- ---- its mark
 

@@ -9,15 +9,18 @@ use native.Mathlib.Omega.{arith}
 use lib.ListN.{length, take, drop, getD, set, length-set}
 use lib.Seq.{drop-drop, getD-drop, take-suc, take-suc-set, take-take, take-all}
 use borrow.Author.Tests.{eq-eqb, ne-eqb}
+use Rattle.wire.specs.Name.{sameName}
 use Rattle.zone.specs.Lists.{onlyIf, keep, allOf}
 use Rattle.zone.specs.Record.{Record, Key, keyOf}
 use Rattle.zone.specs.Batch.{maxRecords}
 use Rattle.zone.specs.Table.{blockAt, recOf, recordsOf}
+use Rattle.zone.proofs.Lists.{clash, beq-true, beq-refl}
 use Rattle.zone.proofs.Memory.{noRecord, length-records, records-at}
 use Rattle.push.specs.Change.{Removal, covers}
 use Rattle.push.specs.List.{alike}
+use Rattle.notify.proofs.Removals.{covers-split}
 use Rattle.notify.proofs.Records.{records-end, records-next}
-use Rattle.notify.specs.Marks.{isMarked, firstMark, markedBy, marked, toldApart, bit, bitUnless}
+use Rattle.notify.specs.Marks.{isMarked, firstMark, markedBy, marked, removalAt, sameNumbers, toldApart, bit, bitUnless}
 
 -- ---- one mark
 
@@ -157,25 +160,31 @@ module _ (m w : Removal) (k : Key) where
   unfolding toldApart
   apart-unmarked mark h = sym (ap (λ (b : Bool). b && not (Bool·beq (covers m k) (covers w k))) (mark-none mark h))
 
-  module _ (mark : ℕ) (h : mark ≡ 0 → ⊥) (t u : Bool) (e : t ≡ covers m k) (f : u ≡ covers w k) where
-    both : toldApart mark m w k ≡ not (Bool·beq t u)
-    unfolding toldApart
-    both = ap (λ (b : Bool). b && not (Bool·beq (covers m k) (covers w k))) (mark-some mark h)
-        ∙ sym (ap₂ (λ (x y : Bool). not (Bool·beq x y)) e f)
+module _ (mark : ℕ) (g : mark ≡ 0 → ⊥) (narrow wide : ℕ) (p : (0 < narrow) × (0 < wide)) (a b : Record) (t : Bool) (e : t ≡ sameNumbers narrow a b)
+    (u : Bool) (f : u ≡ sameNumbers wide a b) where
+  by-numbers : toldApart mark (removalAt narrow a) (removalAt wide a) (keyOf b)
+      ≡ not (Bool·beq (t && sameName (a .owner) (b .owner)) (u && sameName (a .owner) (b .owner)))
+  unfolding toldApart
+  by-numbers =
+      ap (λ (x : Bool). x && not (Bool·beq (covers (removalAt narrow a) (keyOf b)) (covers (removalAt wide a) (keyOf b)))) (mark-some mark g)
+      ∙ ap₂ (λ (x y : Bool). not (Bool·beq x y)) (covers-split narrow a b (λ z. omega arith)) (covers-split wide a b (λ z. omega arith))
+      ∙ ap₂ (λ (x y : Bool). not (Bool·beq (x && sameName (a .owner) (b .owner)) (y && sameName (a .owner) (b .owner)))) (sym e) (sym f)
 
-    pub apart-covered : t ≡ true → not u ≡ toldApart mark m w k
-    apart-covered g = go u ∙ sym (both ∙ ap (λ (x : Bool). not (Bool·beq x u)) g)
-      where
-        go : (u : Bool) → not u ≡ not (Bool·beq true u)
-        go true = refl
-        go false = refl
+  pub apart-same : Bool·beq t u ≡ true → false ≡ toldApart mark (removalAt narrow a) (removalAt wide a) (keyOf b)
+  apart-same q = sym (by-numbers ∙ ap (λ (x : Bool). not (Bool·beq (x && sameName (a .owner) (b .owner)) (u && sameName (a .owner) (b .owner)))) (beq-true t u q)
+      ∙ ap not (beq-refl (u && sameName (a .owner) (b .owner))))
 
-    pub apart-spared : t ≡ false → u ≡ toldApart mark m w k
-    apart-spared g = go u ∙ sym (both ∙ ap (λ (x : Bool). not (Bool·beq x u)) g)
-      where
-        go : (u : Bool) → u ≡ not (Bool·beq false u)
-        go true = refl
-        go false = refl
+  pub apart-named : Bool·beq t u ≡ false → (x y : List ℕ) → x ≡ a .owner → y ≡ b .owner → (r : Bool) → r ≡ sameName x y
+      → r ≡ toldApart mark (removalAt narrow a) (removalAt wide a) (keyOf b)
+  apart-named q x y c d r h = h ∙ ap₂ sameName c d ∙ sym (by-numbers ∙ go t u (sameName (a .owner) (b .owner)) q)
+    where
+      go : (t u s : Bool) → Bool·beq t u ≡ false → not (Bool·beq (t && s) (u && s)) ≡ s
+      go true true s q = clash true refl q
+      go false false s q = clash true refl q
+      go true false true q = refl
+      go true false false q = refl
+      go false true true q = refl
+      go false true false q = refl
 
 -- None of the first i marked records tells two removals apart.
 pub record Agreed (m w : Removal) (ms : List ℕ) (l : List Record) (i : ℕ) : Type 0 where

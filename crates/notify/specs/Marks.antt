@@ -1,6 +1,6 @@
 -- Removals by number, and records of a store that octets mark.
 use Prim.Native.Nat.{ℕ, zero, suc, _+_, _-_}
-use mathlib.Core.Bool.{Bool, true, false, cond, not, _&&_, _||_, Bool·beq}
+use mathlib.Core.Bool.{Bool, cond, not, _&&_, _||_, Bool·beq}
 use mathlib.Core.List.{List, [], _∷_, _++_, map}
 use lib.ListN.{drop, getD}
 use lib.Dec.{leb, eqb}
@@ -28,6 +28,11 @@ kindOf (allClasses owner) = 3
 -- Whether a record has the class and the type that a collective removal of a kind at another names.
 unfoldable pub sameNumbers : ℕ → Record → Record → Bool
 sameNumbers kind a b = leb 3 kind || (eqb (a .rrclass) (b .rrclass) && (leb 2 kind || eqb (a .rrtype) (b .rrtype)))
+
+-- The widest kind up to one whose removal at a record spares another, or 0.
+unfoldable pub narrowed : ℕ → Record → Record → ℕ
+narrowed zero a b = 0
+narrowed (suc kind) a b = cond (covers (removalAt (suc kind) a) (keyOf b)) (narrowed kind a b) (suc kind)
 
 -- ---- marks: an octet for each record of a store, 0 where the record is passed over
 
