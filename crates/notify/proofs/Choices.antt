@@ -1,24 +1,22 @@
 -- Laws of the removal that is chosen for a record, and of those that are sent.
-use Prim.Native.Nat.{ℕ, zero, suc, min, _+_, _-_, _≤_, _<_}
+use Prim.Native.Nat.{ℕ, min, _+_, _-_, _≤_, _<_}
 use mathlib.Core.Path.{_≡_, refl, sym, ap, ap₂, _∙_}
 use mathlib.Core.Bool.{Bool, true, false, cond, not, _&&_}
 use mathlib.Core.List.{List, [], _∷_, _++_, map, map-append, append-nil}
-use native.Mathlib.Numerals.{one-add}
 use native.Mathlib.Omega.{arith}
-use lib.ListN.{length, take, drop, getD, set}
 use lib.Dec.{eqb}
-use borrow.Author.Tests.{eq-eqb, ne-eqb}
+use lib.ListN.{length, take, drop}
 use Rattle.zone.specs.Lists.{onlyIf, anyOf}
 use Rattle.zone.specs.Record.{Record, keyOf}
 use Rattle.zone.specs.Batch.{maxRecords}
-use Rattle.zone.specs.Table.{blockAt, recOf, recordsOf}
+use Rattle.zone.specs.Table.{recordsOf}
 use Rattle.zone.proofs.Lists.{anyOf-of-map}
-use Rattle.zone.proofs.Memory.{noRecord, length-records, records-at}
 use Rattle.push.specs.Change.{Removal, single, rrset, allTypes, allClasses, covers, isTrue}
 use Rattle.push.specs.List.{singleAt, rrsetAt, allTypesAt, allClassesAt, widest, alike, chosen, firsts}
+use Rattle.push.proofs.Covers.{at, isTrue-at}
 use Rattle.push.proofs.Plains.{chosen-cases}
 use Rattle.notify.specs.Marks.{removalAt, kindOf, isMarked, firstMark, markedBy, marked, removalOf, isHead, kindMark, heads, sent}
-use Rattle.notify.proofs.Marked.{Filled, filled-turn, filled-all, mark-none, mark-some, mark-at}
+use Rattle.notify.proofs.Marked.{zipped, Filling, filling-all, mark-none, mark-some}
 
 -- ---- a removal at a record by its kind
 
@@ -39,34 +37,48 @@ chosen-at store gone r = chosen-cases (λ (m : Removal). removalAt (kindOf m) r 
 
 -- ---- the choice
 
-module _ (store gone : List Record) (r : Record) (t : Bool) (e : t ≡ isTrue store (removalAt 1 r)) where
-  pub chosen-single : t ≡ false → 0 ≡ kindOf (chosen store gone r)
-  unfolding chosen removalAt kindOf
-  chosen-single g = rw (sym e ∙ g)
+-- The RRset is gone where the widest true removal is collective.
+set-gone : (store : List Record) (r : Record) → isTrue store (rrsetAt r) ≡ not (eqb (kindOf (widest store r)) 0)
+unfolding widest kindOf
+set-gone store r = go (isTrue store (at 0 r)) refl (isTrue store (at 1 r)) refl (isTrue store (at 2 r)) refl
+  where
+    go : (x : Bool) → isTrue store (at 0 r) ≡ x → (y : Bool) → isTrue store (at 1 r) ≡ y → (z : Bool) → isTrue store (at 2 r) ≡ z
+        → z ≡ not (eqb (kindOf (cond x (allClassesAt r) (cond y (allTypesAt r) (cond z (rrsetAt r) (singleAt r))))) 0)
+    go true p y q z u = sym u ∙ isTrue-at store 0 2 r (omega arith) p
+    go false p true q z u = sym u ∙ isTrue-at store 1 2 r (omega arith) q
+    go false p false q true u = refl
+    go false p false q false u = refl
 
-  module _ (g : t ≡ true) (w : ℕ) (f : w ≡ kindOf (widest store r)) where
-    wide : removalAt w r ≡ widest store r
-    wide = ap (λ (k : ℕ). removalAt k r) f ∙ widest-at store r
+module _ (store gone : List Record) (r : Record) (w : ℕ) (f : w ≡ kindOf (widest store r)) where
+  gone-set : isTrue store (rrsetAt r) ≡ isMarked w
+  gone-set = set-gone store r ∙ ap isMarked (sym f)
 
-    module _ (u : Bool) (h : u ≡ alike gone (removalAt 1 r) (removalAt w r)) where
-      set-alike : alike gone (removalAt 1 r) (widest store r) ≡ u
-      set-alike = sym (h ∙ ap (alike gone (removalAt 1 r)) wide)
+  pub chosen-single : w ≡ 0 → 0 ≡ kindOf (chosen store gone r)
+  unfolding chosen kindOf
+  chosen-single g = rw (gone-set ∙ mark-none w g)
 
-      pub chosen-set : u ≡ true → 1 ≡ kindOf (chosen store gone r)
+  wide : removalAt w r ≡ widest store r
+  wide = ap (λ (k : ℕ). removalAt k r) f ∙ widest-at store r
+
+  module _ (g : w ≡ 0 → ⊥) (u : Bool) (h : u ≡ alike gone (removalAt 1 r) (removalAt w r)) where
+    set-alike : alike gone (removalAt 1 r) (widest store r) ≡ u
+    set-alike = sym (h ∙ ap (alike gone (removalAt 1 r)) wide)
+
+    pub chosen-set : u ≡ true → 1 ≡ kindOf (chosen store gone r)
+    unfolding chosen removalAt kindOf
+    chosen-set k = rw (gone-set ∙ mark-some w g, set-alike ∙ k)
+
+    module _ (k : u ≡ false) (v : Bool) (i : v ≡ alike gone (removalAt 2 r) (removalAt w r)) where
+      types-alike : alike gone (removalAt 2 r) (widest store r) ≡ v
+      types-alike = sym (i ∙ ap (alike gone (removalAt 2 r)) wide)
+
+      pub chosen-types : v ≡ true → 2 ≡ kindOf (chosen store gone r)
       unfolding chosen removalAt kindOf
-      chosen-set k = rw (sym e ∙ g, set-alike ∙ k)
+      chosen-types j = rw (gone-set ∙ mark-some w g, set-alike ∙ k, types-alike ∙ j)
 
-      module _ (k : u ≡ false) (v : Bool) (i : v ≡ alike gone (removalAt 2 r) (removalAt w r)) where
-        types-alike : alike gone (removalAt 2 r) (widest store r) ≡ v
-        types-alike = sym (i ∙ ap (alike gone (removalAt 2 r)) wide)
-
-        pub chosen-types : v ≡ true → 2 ≡ kindOf (chosen store gone r)
-        unfolding chosen removalAt kindOf
-        chosen-types j = rw (sym e ∙ g, set-alike ∙ k, types-alike ∙ j)
-
-        pub chosen-classes : v ≡ false → 3 ≡ kindOf (chosen store gone r)
-        unfolding chosen removalAt kindOf
-        chosen-classes j = rw (sym e ∙ g, set-alike ∙ k, types-alike ∙ j)
+      pub chosen-classes : v ≡ false → 3 ≡ kindOf (chosen store gone r)
+      unfolding chosen removalAt kindOf
+      chosen-classes j = rw (gone-set ∙ mark-some w g, set-alike ∙ k, types-alike ∙ j)
 
 -- ---- its mark
 
@@ -88,23 +100,6 @@ module _ (store gone : List Record) (mark : ℕ) (r : Record) where
       ap (λ (j : ℕ). j + 1) e ∙ sym (ap (λ (b : Bool). cond b (kindOf (chosen store gone r) + 1) 0) (mark-some mark h))
 
 -- ---- all marks
-
-unfoldable pub zipped : (ℕ → Record → ℕ) → List ℕ → List Record → List ℕ
-zipped f ms [] = []
-zipped f ms (r ∷ l) = f (firstMark ms) r ∷ zipped f (drop 1 ms) l
-
-module _ (f : ℕ → Record → ℕ) where
-  length-zipped : (ms : List ℕ) (l : List Record) → length (zipped f ms l) ≡ length l
-  unfolding zipped
-  length-zipped ms [] = refl
-  length-zipped ms (r ∷ l) = ap suc (length-zipped (drop 1 ms) l)
-
-  zipped-at : (ms : List ℕ) (l : List Record) (i : ℕ) → i < length l → getD (zipped f ms l) i 0 ≡ f (getD ms i 0) (getD l i noRecord)
-  unfolding zipped
-  zipped-at ms [] i h = absurd (omega arith)
-  zipped-at ms (r ∷ l) zero h = refl
-  zipped-at [] (r ∷ l) (suc i) h = zipped-at [] l i (omega arith)
-  zipped-at (m ∷ ms) (r ∷ l) (suc i) h = zipped-at ms l i (omega arith)
 
 heads-take : (earlier : List Removal) (ms : List ℕ) (l : List Record) → heads earlier (take (length l) ms) l ≡ heads earlier ms l
 unfolding heads
@@ -164,36 +159,10 @@ unfolding kindMark marked step
 heads-sent store ms l =
     heads-firsts (chosen store (marked ms l)) (λ (r : Record). kindOf (chosen store (marked ms l) r)) (chosen-at store (marked ms l)) [] ms l
 
-pub record Choosing (store : List Record) (ms : List ℕ) (l : List Record) (m : List ℕ) (i : ℕ) : Type 0 where
-  pub filled : Filled (zipped (kindMark store (marked ms l)) ms l) m i
-
-pub choosing-none : (store : List Record) (ms : List ℕ) (l : List Record) (m : List ℕ) → length m ≡ maxRecords → Choosing store ms l m 0
-choosing-none store ms l m h = record { filled = record { long = h; front = refl } }
-
-module _ (store : List Record) (ms : List ℕ) (count : ℕ) (a m : List ℕ) (i : ℕ) (s : Choosing store ms (recordsOf count a) m i)
-    (n : ℕ) (e : n ≡ min count maxRecords) where
-  wanted : List ℕ
-  wanted = zipped (kindMark store (marked ms (recordsOf count a))) ms (recordsOf count a)
-
-  long : length wanted ≡ n
-  unfolding wanted
-  long = length-zipped (kindMark store (marked ms (recordsOf count a))) ms (recordsOf count a) ∙ length-records count a ∙ sym e
-
-  pub choosing-turn : i < n → (b : List ℕ) → b ≡ blockAt a i → (v : ℕ) → v ≡ kindMark store (marked ms (recordsOf count a)) (getD ms i 0) (recOf b)
-      → Choosing store ms (recordsOf count a) (set m i v) (i + 1)
-  unfolding wanted
-  choosing-turn h b f v g =
-      let l : List Record = recordsOf count a in
-      record {
-        filled = filled-turn wanted m i (s .filled) (omega arith) (omega (arith, long)) v 0
-            (g ∙ ap (kindMark store (marked ms l) (getD ms i 0)) (ap recOf f ∙ sym (records-at count a i (omega arith)))
-            ∙ sym (zipped-at (kindMark store (marked ms l)) ms l i (omega (arith, length-records count a))));
-      }
-
-  pub choosing-all : n ≤ i → heads [] m (recordsOf count a) ≡ sent store (marked ms (recordsOf count a))
-  unfolding wanted
-  choosing-all h =
-      let l : List Record = recordsOf count a in
-      let t : take (length l) m ≡ wanted =
-      ap (λ (k : ℕ). take k m) (length-records count a ∙ sym e) ∙ filled-all wanted m i n (s .filled) long h in
-      sym (heads-take [] m l) ∙ ap (λ (k : List ℕ). heads [] k l) t ∙ heads-sent store ms l
+pub choosing-all : (store : List Record) (ms : List ℕ) (count : ℕ) (a m : List ℕ) (i n : ℕ) → n ≡ min count maxRecords → n ≤ i
+    → Filling (kindMark store (marked ms (recordsOf count a))) ms (recordsOf count a) m i
+    → heads [] m (recordsOf count a) ≡ sent store (marked ms (recordsOf count a))
+choosing-all store ms count a m i n e h s =
+    let l : List Record = recordsOf count a in
+    sym (heads-take [] m l) ∙ ap (λ (k : List ℕ). heads [] k l) (filling-all (kindMark store (marked ms l)) ms count a m i s n e h)
+    ∙ heads-sent store ms l

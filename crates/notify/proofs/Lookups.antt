@@ -1,12 +1,12 @@
 -- Laws of a record looked up in the other store, in the subscriptions, and in one subscription.
-use Prim.Native.Nat.{ℕ, zero, suc, min, _+_, _<_}
+use Prim.Native.Nat.{ℕ, suc, min, _+_, _≤_, _<_}
 use mathlib.Core.Path.{_≡_, refl, sym, ap, ap₂, _∙_}
-use mathlib.Core.Bool.{Bool, true, false, cond, not, _&&_, and-comm}
+use mathlib.Core.Bool.{Bool, true, false, cond, _&&_, _||_, and-comm, or-true, or-false}
 use mathlib.Core.List.{List, [], _∷_}
 use mathlib.Core.Option.{Option, none, some}
 use native.Mathlib.Numerals.{one-add}
 use native.Mathlib.Omega.{arith}
-use lib.ListN.{length, getD}
+use lib.ListN.{length, take, drop, getD, take-append-drop}
 use lib.Dec.{eqb}
 use Rattle.wire.specs.Name.{lowered, sameOctets, sameName, after}
 use Rattle.dso.specs.Match.{asksFor}
@@ -18,10 +18,14 @@ use Rattle.zone.specs.Batch.{maxRecords}
 use Rattle.zone.specs.Table.{blockAt, recOf, recordsOf, keyFrom, indexOf, foundAt}
 use Rattle.zone.specs.declared.records.Found.{Found}
 use Rattle.zone.specs.declared.records.Found.the-variants.{At, Nothing}
+use Rattle.zone.proofs.Lists.{anyOf-append}
+use Rattle.zone.proofs.Stores.{none-held, held-cons, held-anyOf}
 use Rattle.zone.proofs.Memory.{noRecord, length-records, records-at}
 use Rattle.session.specs.Table.{subscription, recordAsked}
 use Rattle.push.specs.List.{hasTtl}
-use Rattle.notify.specs.Marks.{butNot, bit}
+use Rattle.notify.specs.Marks.{isMarked, bit, bitUnless}
+use Rattle.notify.proofs.Records.{records-end, records-next}
+use Rattle.notify.proofs.Marked.{mark-none, mark-some}
 
 -- ---- in a store
 
@@ -30,6 +34,31 @@ pub find-in : (r : Record) (o : List ℕ) (t c : ℕ) (d : List ℕ) (l : List R
 find-in r o t c d l f p q u v e =
     let w : keyFrom o t c d ≡ keyOf r = λ i. record { owner = lowered (p i); rrtype = q i; rrclass = u i; rdata = v i } in
     e ∙ ap (λ (k : Key). foundAt (indexOf k l)) w
+
+held-nil : (k : Key) → held k [] ≡ false
+held-nil k = none-held k [] (unfold find in refl)
+
+-- A record that a part of a store has.
+held-part : (k : Key) (n i : ℕ) (l : List Record) → held k (take n (drop i l)) ≡ true → held k l ≡ true
+held-part k n i l e =
+    let p : Record → Bool = λ r. sameKey (keyOf r) k in
+    let h : anyOf p (take n (drop i l)) ≡ true = sym (held-anyOf k (take n (drop i l))) ∙ e in
+    let g : anyOf p (drop i l) ≡ true =
+    ap (anyOf p) (sym (take-append-drop n (drop i l))) ∙ anyOf-append p (take n (drop i l)) (drop n (drop i l)) ∙ ap (λ (b : Bool). b || anyOf p (drop n (drop i l))) h in
+    held-anyOf k l ∙ ap (anyOf p) (sym (take-append-drop i l)) ∙ anyOf-append p (take i l) (drop i l)
+    ∙ ap (λ (b : Bool). anyOf p (take i l) || b) g ∙ or-true (anyOf p (take i l))
+
+module _ (k : Key) (count : ℕ) (a : List ℕ) (i n : ℕ) (e : n ≡ min count maxRecords) where
+  pub stands-past : n ≤ i → false ≡ held k (take 1 (drop i (recordsOf count a)))
+  stands-past h = sym (ap (λ (l : List Record). held k (take 1 l)) (records-end count a i n e h) ∙ held-nil k)
+
+  pub stands-here : i < n → (b : List ℕ) → b ≡ blockAt a i → (t : Bool) → t ≡ sameKey (keyOf (recOf b)) k → t ≡ held k (take 1 (drop i (recordsOf count a)))
+  stands-here h b f t g =
+      g ∙ sym (ap (λ (l : List Record). held k (take 1 l)) (records-next count a i n e h b f) ∙ held-cons k (recOf b) []
+      ∙ ap (λ (x : Bool). sameKey (keyOf (recOf b)) k || x) (held-nil k) ∙ or-false (sameKey (keyOf (recOf b)) k))
+
+pub held-there : (k : Key) (i : ℕ) (l : List Record) (t : Bool) → t ≡ held k (take 1 (drop i l)) → t ≡ true → true ≡ held k l
+held-there k i l t e h = sym (held-part k 1 i l (sym e ∙ h))
 
 ttlAt : Option ℕ → List Record → Option ℕ
 ttlAt none l = none
@@ -138,18 +167,26 @@ module _ (name : List ℕ) (t c : ℕ) (r : Record) (x y : ℕ) (p : x ≡ r .rr
     unfolding bit
     match-other k = sym (ap bit (named ∙ k))
 
--- ---- one test, and not another
+-- ---- a mark
 
-module _ (x y t : Bool) (e : t ≡ x) where
-  pub but-not : t ≡ false → 0 ≡ bit (butNot x y)
-  unfolding bit butNot
-  but-not h = sym (ap (λ (b : Bool). bit (butNot b y)) (sym e ∙ h))
+pub unless-true : (t : Bool) → t ≡ true → 0 ≡ bitUnless t
+unfolding bit bitUnless
+unless-true t h = sym (ap bitUnless h)
 
-  module _ (h : t ≡ true) (u : Bool) (f : u ≡ y) where
-    pub but-both : u ≡ true → 0 ≡ bit (butNot x y)
-    unfolding bit butNot
-    but-both k = sym (ap₂ (λ (a b : Bool). bit (butNot a b)) (sym e ∙ h) (sym f ∙ k))
+pub unless-false : (t : Bool) → t ≡ false → 1 ≡ bitUnless t
+unfolding bit bitUnless
+unless-false t h = sym (ap bitUnless h)
 
-    pub but-one : u ≡ false → 1 ≡ bit (butNot x y)
-    unfolding bit butNot
-    but-one k = sym (ap₂ (λ (a b : Bool). bit (butNot a b)) (sym e ∙ h) (sym f ∙ k))
+module _ (mark : ℕ) (x : Bool) where
+  pub visible-unmarked : mark ≡ 0 → 0 ≡ bit (isMarked mark && x)
+  unfolding bit
+  visible-unmarked h = sym (ap (λ (b : Bool). bit (b && x)) (mark-none mark h))
+
+  module _ (h : mark ≡ 0 → ⊥) (t : Bool) (e : t ≡ x) where
+    pub visible-wanted : t ≡ true → 1 ≡ bit (isMarked mark && x)
+    unfolding bit
+    visible-wanted g = sym (ap₂ (λ (a b : Bool). bit (a && b)) (mark-some mark h) (sym e ∙ g))
+
+    pub visible-not : t ≡ false → 0 ≡ bit (isMarked mark && x)
+    unfolding bit
+    visible-not g = sym (ap₂ (λ (a b : Bool). bit (a && b)) (mark-some mark h) (sym e ∙ g))

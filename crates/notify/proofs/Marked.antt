@@ -1,25 +1,26 @@
 -- Laws of marks: an octet for each record of a store, filled in by a loop and read by one.
-use Prim.Native.Nat.{ℕ, zero, suc, min, _+_, _-_, _≤_, _<_}
+use Prim.Native.Nat.{ℕ, zero, suc, min, _+_, _≤_, _<_}
 use mathlib.Core.Path.{_≡_, refl, sym, ap, ap₂, _∙_}
-use mathlib.Core.Bool.{Bool, true, false, cond, not, _&&_, _||_, Bool·beq}
-use mathlib.Core.List.{List, [], _∷_, _++_, map, map-append}
+use mathlib.Core.Bool.{Bool, true, false, not, _&&_, Bool·beq}
+use mathlib.Core.List.{List, [], _∷_, _++_}
 use native.Mathlib.Nat.{add-zero}
 use native.Mathlib.Numerals.{add-one}
 use native.Mathlib.Omega.{arith}
-use lib.ListN.{length, take, drop, getD, set, length-map, length-set, List·getD-map, drop-of-length-le}
-use lib.Seq.{drop-cons, drop-drop, getD-drop, take-suc, take-suc-set, take-take, take-all}
-use lib.Dec.{eqb}
+use lib.ListN.{length, take, drop, getD, set, length-set}
+use lib.Seq.{drop-drop, getD-drop, take-suc, take-suc-set, take-take, take-all}
 use borrow.Author.Tests.{eq-eqb, ne-eqb}
-use Rattle.zone.specs.Lists.{onlyIf, keep, anyOf, allOf}
+use Rattle.wire.specs.Name.{sameName}
+use Rattle.zone.specs.Lists.{onlyIf, keep, allOf}
 use Rattle.zone.specs.Record.{Record, Key, keyOf}
 use Rattle.zone.specs.Batch.{maxRecords}
 use Rattle.zone.specs.Table.{blockAt, recOf, recordsOf}
-use Rattle.zone.proofs.Lists.{anyOf-of-map}
+use Rattle.zone.proofs.Lists.{clash, beq-true, beq-refl}
 use Rattle.zone.proofs.Memory.{noRecord, length-records, records-at}
 use Rattle.push.specs.Change.{Removal, covers}
-use Rattle.push.specs.List.{alike, chosen, firsts}
+use Rattle.push.specs.List.{alike}
+use Rattle.notify.proofs.Removals.{covers-split}
 use Rattle.notify.proofs.Records.{records-end, records-next}
-use Rattle.notify.specs.Marks.{removalAt, kindOf, isMarked, firstMark, markedBy, marked, removalOf, removalsOf, toldApart, kindMark, heads, sent, bit}
+use Rattle.notify.specs.Marks.{isMarked, firstMark, markedBy, marked, removalAt, sameNumbers, toldApart, bit, bitUnless}
 
 -- ---- one mark
 
@@ -34,70 +35,123 @@ mark-at ms i = getD-drop i ms 0 0 ∙ ap (λ (j : ℕ). getD ms j 0) (add-zero i
 
 -- ---- a loop that fills marks in
 
--- The first i marks are those of a list.
-pub record Filled (g m : List ℕ) (i : ℕ) : Type 0 where
+-- What each record of a list gives with a mark that it has.
+unfoldable pub zipped : (ℕ → Record → ℕ) → List ℕ → List Record → List ℕ
+zipped f ms [] = []
+zipped f ms (r ∷ l) = f (firstMark ms) r ∷ zipped f (drop 1 ms) l
+
+module _ (f : ℕ → Record → ℕ) where
+  length-zipped : (ms : List ℕ) (l : List Record) → length (zipped f ms l) ≡ length l
+  unfolding zipped
+  length-zipped ms [] = refl
+  length-zipped ms (r ∷ l) = ap suc (length-zipped (drop 1 ms) l)
+
+  zipped-at : (ms : List ℕ) (l : List Record) (i : ℕ) → i < length l → getD (zipped f ms l) i 0 ≡ f (getD ms i 0) (getD l i noRecord)
+  unfolding zipped
+  zipped-at ms [] i h = absurd (omega arith)
+  zipped-at ms (r ∷ l) zero h = refl
+  zipped-at [] (r ∷ l) (suc i) h = zipped-at [] l i (omega arith)
+  zipped-at (m ∷ ms) (r ∷ l) (suc i) h = zipped-at ms l i (omega arith)
+
+-- The first i marks are there.
+pub record Filling (f : ℕ → Record → ℕ) (ms : List ℕ) (l : List Record) (m : List ℕ) (i : ℕ) : Type 0 where
   pub long : length m ≡ maxRecords
-  pub front : take i m ≡ take i g
+  pub front : take i m ≡ take i (zipped f ms l)
 
-pub filled-turn : (g m : List ℕ) (i : ℕ) → Filled g m i → i < maxRecords → i < length g → (v d : ℕ) → v ≡ getD g i d → Filled g (set m i v) (i + 1)
-filled-turn g m i s h k v d e = record {
-  long = length-set m i v ∙ s .long;
-  front = ap (λ (j : ℕ). take j (set m i v)) (add-one i) ∙ take-suc-set m i v (omega (arith, s .long))
-      ∙ ap₂ (λ (l : List ℕ) (x : ℕ). l ++ (x ∷ [])) (s .front) e ∙ sym (take-suc g i d k)
-      ∙ sym (ap (λ (j : ℕ). take j g) (add-one i));
-}
+pub filling-none : (f : ℕ → Record → ℕ) (ms : List ℕ) (l : List Record) (m : List ℕ) → length m ≡ maxRecords → Filling f ms l m 0
+filling-none f ms l m h = record { long = h; front = refl }
 
-pub filled-all : (g m : List ℕ) (i n : ℕ) → Filled g m i → length g ≡ n → n ≤ i → take n m ≡ g
-filled-all g m i n s e h =
-    sym (take-take n i m h) ∙ ap (take n) (s .front) ∙ take-take n i g h ∙ take-all n g (omega arith)
+module _ (f : ℕ → Record → ℕ) (ms : List ℕ) (count : ℕ) (a m : List ℕ) (i : ℕ) (s : Filling f ms (recordsOf count a) m i)
+    (n : ℕ) (e : n ≡ min count maxRecords) where
+  goal : List ℕ
+  goal = zipped f ms (recordsOf count a)
+
+  long-goal : length goal ≡ n
+  unfolding goal
+  long-goal = length-zipped f ms (recordsOf count a) ∙ length-records count a ∙ sym e
+
+  pub filling-turn : i < n → (b : List ℕ) → b ≡ blockAt a i → (v : ℕ) → v ≡ f (getD ms i 0) (recOf b) → Filling f ms (recordsOf count a) (set m i v) (i + 1)
+  unfolding goal
+  filling-turn h b g v k =
+      let w : v ≡ getD goal i 0 =
+      k ∙ ap (f (getD ms i 0)) (ap recOf g ∙ sym (records-at count a i (omega arith)))
+      ∙ sym (zipped-at f ms (recordsOf count a) i (omega (arith, length-records count a))) in
+      record {
+        long = length-set m i v ∙ s .long;
+        front = ap (λ (j : ℕ). take j (set m i v)) (add-one i) ∙ take-suc-set m i v (omega (arith, s .long))
+            ∙ ap₂ (λ (l : List ℕ) (x : ℕ). l ++ (x ∷ [])) (s .front) w ∙ sym (take-suc goal i 0 (omega (arith, long-goal)))
+            ∙ sym (ap (λ (j : ℕ). take j goal) (add-one i));
+      }
+
+  pub filling-all : n ≤ i → take (length (recordsOf count a)) m ≡ zipped f ms (recordsOf count a)
+  unfolding goal
+  filling-all h =
+      ap (λ (k : ℕ). take k m) (length-records count a ∙ sym e) ∙ sym (take-take n i m h) ∙ ap (take n) (s .front)
+      ∙ take-take n i goal h ∙ take-all n goal (omega (arith, long-goal))
+
+-- ---- marks by a test
 
 -- What is marked looks at as many marks as there are records.
-pub markedBy-take : {A : Type 0} (f : ℕ → Record → A) (ms : List ℕ) (l : List Record) → markedBy f (take (length l) ms) l ≡ markedBy f ms l
-markedBy-take f ms [] = refl
-markedBy-take f [] (r ∷ l) = refl
-markedBy-take f (m ∷ ms) (r ∷ l) = ap (onlyIf (isMarked m) (f m r)) (markedBy-take f ms l)
+marked-take : (ms : List ℕ) (l : List Record) → marked (take (length l) ms) l ≡ marked ms l
+unfolding marked
+marked-take ms [] = refl
+marked-take [] (r ∷ l) = refl
+marked-take (m ∷ ms) (r ∷ l) = ap (onlyIf (isMarked m) r) (marked-take ms l)
 
--- Records marked by a test.
-unfoldable pub bits : (Record → Bool) → List Record → List ℕ
-bits p l = map (λ (r : Record). bit (p r)) l
+bit-marked : (b : Bool) → isMarked (bit b) ≡ b
+unfolding bit
+bit-marked true = refl
+bit-marked false = refl
 
-marked-bits : (p : Record → Bool) (l : List Record) → marked (bits p l) l ≡ keep p l
-unfolding marked bits
-marked-bits p [] = refl
-marked-bits p (r ∷ l) = go (p r) ∙ ap (onlyIf (p r) r) (marked-bits p l)
+-- The mark of a record by a test of it; of a marked record alone.
+abbrev pub each : (Record → Bool) → ℕ → Record → ℕ
+each p m r = bit (p r)
+
+abbrev pub among : (Record → Bool) → ℕ → Record → ℕ
+among p m r = bit (isMarked m && p r)
+
+marked-each : (p : Record → Bool) (ms : List ℕ) (l : List Record) → marked (zipped (each p) ms l) l ≡ keep p l
+unfolding marked zipped
+marked-each p ms [] = refl
+marked-each p ms (r ∷ l) = ap₂ (λ (b : Bool) (x : List Record). onlyIf b r x) (bit-marked (p r)) (marked-each p (drop 1 ms) l)
+
+marked-among : (p : Record → Bool) (ms : List ℕ) (l : List Record) → marked (zipped (among p) ms l) l ≡ keep p (marked ms l)
+unfolding marked zipped
+marked-among p ms [] = refl
+marked-among p ms (r ∷ l) =
+    ap₂ (λ (b : Bool) (x : List Record). onlyIf b r x) (bit-marked (isMarked (firstMark ms) && p r)) (marked-among p (drop 1 ms) l)
+    ∙ go (isMarked (firstMark ms))
   where
-    go : (b : Bool) → onlyIf (isMarked (bit b)) r (markedBy (λ (m : ℕ) (r : Record). r) (map (λ (r : Record). bit (p r)) l) l)
-        ≡ onlyIf b r (markedBy (λ (m : ℕ) (r : Record). r) (map (λ (r : Record). bit (p r)) l) l)
-    go true = unfold bit in refl
-    go false = unfold bit in refl
+    go : (b : Bool) → onlyIf (b && p r) r (keep p (marked (drop 1 ms) l)) ≡ keep p (onlyIf b r (marked (drop 1 ms) l))
+    go true = refl
+    go false = refl
 
-pub record Marking (p : Record → Bool) (l : List Record) (m : List ℕ) (i : ℕ) : Type 0 where
-  pub filled : Filled (bits p l) m i
+module _ (count : ℕ) (a m : List ℕ) (i n : ℕ) (e : n ≡ min count maxRecords) (h : n ≤ i) where
+  filled : (f : ℕ → Record → ℕ) (ms : List ℕ) → Filling f ms (recordsOf count a) m i → marked m (recordsOf count a) ≡ marked (zipped f ms (recordsOf count a)) (recordsOf count a)
+  filled f ms s =
+      sym (marked-take m (recordsOf count a))
+      ∙ ap (λ (k : List ℕ). marked k (recordsOf count a)) (filling-all f ms count a m i s n e h)
 
-pub marking-none : (p : Record → Bool) (l : List Record) (m : List ℕ) → length m ≡ maxRecords → Marking p l m 0
-marking-none p l m h = record { filled = record { long = h; front = refl } }
+  pub each-all : (p : Record → Bool) → Filling (each p) [] (recordsOf count a) m i → marked m (recordsOf count a) ≡ keep p (recordsOf count a)
+  each-all p s = filled (each p) [] s ∙ marked-each p [] (recordsOf count a)
 
-module _ (p : Record → Bool) (count : ℕ) (a m : List ℕ) (i : ℕ) (s : Marking p (recordsOf count a) m i) (n : ℕ) (e : n ≡ min count maxRecords) where
-  long-bits : length (bits p (recordsOf count a)) ≡ n
-  unfolding bits
-  long-bits = length-map (recordsOf count a) (λ (r : Record). bit (p r)) ∙ length-records count a ∙ sym e
+  pub among-all : (p : Record → Bool) (ms : List ℕ) → Filling (among p) ms (recordsOf count a) m i → marked m (recordsOf count a) ≡ keep p (marked ms (recordsOf count a))
+  among-all p ms s = filled (among p) ms s ∙ marked-among p ms (recordsOf count a)
 
-  pub marking-turn : i < n → (b : List ℕ) → b ≡ blockAt a i → (v : ℕ) → v ≡ bit (p (recOf b)) → Marking p (recordsOf count a) (set m i v) (i + 1)
-  unfolding bits
-  marking-turn h b f v g = record {
-    filled = filled-turn (bits p (recordsOf count a)) m i (s .filled) (omega arith) (omega (arith, long-bits)) v (bit (p noRecord))
-        (g ∙ ap (λ (r : Record). bit (p r)) (ap recOf f ∙ sym (records-at count a i (omega arith)))
-        ∙ sym (List·getD-map (λ (r : Record). bit (p r)) (recordsOf count a) i noRecord));
-  }
+-- Records marked unless they pass a test.
+unfoldable pub unless : (Record → Bool) → ℕ → Record → ℕ
+unless p m r = bitUnless (p r)
 
-  pub marking-all : n ≤ i → marked m (recordsOf count a) ≡ keep p (recordsOf count a)
-  unfolding marked
-  marking-all h =
-      let l : List Record = recordsOf count a in
-      let t : take (length l) m ≡ bits p l =
-      ap (λ (k : ℕ). take k m) (length-records count a ∙ sym e) ∙ filled-all (bits p l) m i n (s .filled) long-bits h in
-      sym (markedBy-take (λ (m : ℕ) (r : Record). r) m l) ∙ ap (λ (k : List ℕ). markedBy (λ (m : ℕ) (r : Record). r) k l) t
-      ∙ marked-bits p l
+module _ (p : Record → Bool) (count : ℕ) (a m : List ℕ) (i : ℕ) (s : Filling (unless p) [] (recordsOf count a) m i)
+    (n : ℕ) (e : n ≡ min count maxRecords) where
+  pub unless-turn : i < n → (b : List ℕ) → b ≡ blockAt a i → (t : Bool) → t ≡ p (recOf b) → (v : ℕ) → v ≡ bitUnless t
+      → Filling (unless p) [] (recordsOf count a) (set m i v) (i + 1)
+  unfolding unless
+  unless-turn h b f t g v k = filling-turn (unless p) [] count a m i s n e h b f v (k ∙ ap bitUnless g)
+
+  pub unless-all : n ≤ i → (k : List Record) → keep (λ (r : Record). not (p r)) (recordsOf count a) ≡ k → marked m (recordsOf count a) ≡ k
+  unfolding unless bitUnless
+  unless-all h k f = each-all count a m i n e h (λ (r : Record). not (p r)) s ∙ f
 
 -- ---- whether two removals cover the same of the marked records
 
@@ -106,25 +160,31 @@ module _ (m w : Removal) (k : Key) where
   unfolding toldApart
   apart-unmarked mark h = sym (ap (λ (b : Bool). b && not (Bool·beq (covers m k) (covers w k))) (mark-none mark h))
 
-  module _ (mark : ℕ) (h : mark ≡ 0 → ⊥) (t u : Bool) (e : t ≡ covers m k) (f : u ≡ covers w k) where
-    both : toldApart mark m w k ≡ not (Bool·beq t u)
-    unfolding toldApart
-    both = ap (λ (b : Bool). b && not (Bool·beq (covers m k) (covers w k))) (mark-some mark h)
-        ∙ sym (ap₂ (λ (x y : Bool). not (Bool·beq x y)) e f)
+module _ (mark : ℕ) (g : mark ≡ 0 → ⊥) (narrow wide : ℕ) (p : (0 < narrow) × (0 < wide)) (a b : Record) (t : Bool) (e : t ≡ sameNumbers narrow a b)
+    (u : Bool) (f : u ≡ sameNumbers wide a b) where
+  by-numbers : toldApart mark (removalAt narrow a) (removalAt wide a) (keyOf b)
+      ≡ not (Bool·beq (t && sameName (a .owner) (b .owner)) (u && sameName (a .owner) (b .owner)))
+  unfolding toldApart
+  by-numbers =
+      ap (λ (x : Bool). x && not (Bool·beq (covers (removalAt narrow a) (keyOf b)) (covers (removalAt wide a) (keyOf b)))) (mark-some mark g)
+      ∙ ap₂ (λ (x y : Bool). not (Bool·beq x y)) (covers-split narrow a b (λ z. omega arith)) (covers-split wide a b (λ z. omega arith))
+      ∙ ap₂ (λ (x y : Bool). not (Bool·beq (x && sameName (a .owner) (b .owner)) (y && sameName (a .owner) (b .owner)))) (sym e) (sym f)
 
-    pub apart-covered : t ≡ true → not u ≡ toldApart mark m w k
-    apart-covered g = go u ∙ sym (both ∙ ap (λ (x : Bool). not (Bool·beq x u)) g)
-      where
-        go : (u : Bool) → not u ≡ not (Bool·beq true u)
-        go true = refl
-        go false = refl
+  pub apart-same : Bool·beq t u ≡ true → false ≡ toldApart mark (removalAt narrow a) (removalAt wide a) (keyOf b)
+  apart-same q = sym (by-numbers ∙ ap (λ (x : Bool). not (Bool·beq (x && sameName (a .owner) (b .owner)) (u && sameName (a .owner) (b .owner)))) (beq-true t u q)
+      ∙ ap not (beq-refl (u && sameName (a .owner) (b .owner))))
 
-    pub apart-spared : t ≡ false → u ≡ toldApart mark m w k
-    apart-spared g = go u ∙ sym (both ∙ ap (λ (x : Bool). not (Bool·beq x u)) g)
-      where
-        go : (u : Bool) → u ≡ not (Bool·beq false u)
-        go true = refl
-        go false = refl
+  pub apart-named : Bool·beq t u ≡ false → (x y : List ℕ) → x ≡ a .owner → y ≡ b .owner → (r : Bool) → r ≡ sameName x y
+      → r ≡ toldApart mark (removalAt narrow a) (removalAt wide a) (keyOf b)
+  apart-named q x y c d r h = h ∙ ap₂ sameName c d ∙ sym (by-numbers ∙ go t u (sameName (a .owner) (b .owner)) q)
+    where
+      go : (t u s : Bool) → Bool·beq t u ≡ false → not (Bool·beq (t && s) (u && s)) ≡ s
+      go true true s q = clash true refl q
+      go false false s q = clash true refl q
+      go true false true q = refl
+      go true false false q = refl
+      go false true true q = refl
+      go false true false q = refl
 
 -- None of the first i marked records tells two removals apart.
 pub record Agreed (m w : Removal) (ms : List ℕ) (l : List Record) (i : ℕ) : Type 0 where

@@ -1,13 +1,12 @@
 -- Laws of whole PUSH messages: the front written last, the list of changes by the marks, and views.
-use Prim.Native.Nat.{ℕ, suc, min, _+_, _-_, _%_, _≤_, _<_}
-use mathlib.Core.Path.{_≡_, refl, sym, ap, ap₂, _∙_, fun-ext}
-use mathlib.Core.Bool.{Bool, true, false, cond, not, _&&_}
+use Prim.Native.Nat.{ℕ, min, _+_, _-_, _%_, _≤_, _<_}
+use mathlib.Core.Path.{_≡_, refl, sym, ap, ap₂, _∙_}
+use mathlib.Core.Bool.{Bool, true, false, cond, not, _&&_, and-comm}
 use mathlib.Core.List.{List, [], _∷_, _++_, map, append-assoc, append-nil}
 use mathlib.Core.Option.{Option}
 use native.Mathlib.Omega.{arith}
 use lib.ListN.{length, take, drop, length-append}
 use lib.Seq.{sets}
-use lib.Dec.{eqb}
 use borrow.Author.Tests.{eq-eqb, ne-eqb}
 use Rattle.wire.specs.Field.{octets}
 use Rattle.wire.proofs.Fields.{octets-mod}
@@ -16,19 +15,19 @@ use Rattle.dso.specs.Judge.{pushType}
 use Rattle.dso.specs.Response.{header, tlvOctets, tlvsOctets, framed}
 use Rattle.dso.proofs.Responses.{sets-then}
 use Rattle.zone.specs.Lists.{onlyIf, keep}
-use Rattle.zone.specs.Record.{Record, Key, keyOf}
+use Rattle.zone.specs.Record.{Record, keyOf}
 use Rattle.zone.specs.Store.{find, held, isSome}
 use Rattle.zone.specs.Match.{Subscription, wanted, view}
 use Rattle.zone.specs.Layout.{size}
 use Rattle.zone.proofs.Lists.{keep-same}
 use Rattle.zone.proofs.Views.{find-view}
-use Rattle.push.specs.Change.{Removal, Change, addition, removal, fieldsOf}
+use Rattle.push.specs.Change.{Removal, Change, removal}
 use Rattle.push.specs.List.{leaving, entering, hasTtl, chosen, firsts, removals, additions, changes}
 use Rattle.push.specs.Measure.{bytes}
 use Rattle.push.specs.Octets.{changesOctets, unidirectionalFlags, pushMessage, pushOctets, pushOf}
 use Rattle.push.proofs.ReadBack.{length-changesOctets}
 use Rattle.push.proofs.Framing.{length-pushMessage, length-pushOctets, pushOf-nil, pushOf-cons}
-use Rattle.notify.specs.Marks.{marked, heads, sent, butNot, leaves, enters}
+use Rattle.notify.specs.Marks.{marked, heads, sent, changesFor}
 use Rattle.notify.specs.Written.{Wrote, frontLength, front, fronted, counted, Fronted, Step, Pushed}
 use Rattle.notify.proofs.Sending.{changes-append}
 
@@ -149,64 +148,54 @@ keep-keep p q (r ∷ l) = go (p r) ∙ ap (onlyIf (p r && q r) r) (keep-keep p q
     go true = refl
     go false = refl
 
-module _ (subs : List Subscription) (store : List Record) where
-  found : (k : Key) (r : Record) → k ≡ keyOf r → wanted subs r ≡ true → find k (view subs store) ≡ find k store
-  found k r e h = ap (λ (k : Key). find k (view subs store)) e ∙ find-view (keyOf r) subs store
-      ∙ ap (λ (b : Bool). cond b (find (keyOf r) store) Option.none) h ∙ ap (λ (k : Key). find k store) (sym e)
+-- What a test gives of a record and of what another store has of it, it gives of a view of that store, if the record is in the view.
+keep-view : (q : Option ℕ → Record → Bool) (subs : List Subscription) (other l : List Record)
+    → view subs (keep (λ (r : Record). q (find (keyOf r) other) r) l) ≡ keep (λ (r : Record). q (find (keyOf r) (view subs other)) r) (view subs l)
+keep-view q subs other l =
+    keep-keep (λ (r : Record). q (find (keyOf r) other) r) (wanted subs) l
+    ∙ keep-same (λ (r : Record). q (find (keyOf r) other) r && wanted subs r) (λ (r : Record). wanted subs r && q (find (keyOf r) (view subs other)) r) l same
+    ∙ sym (keep-keep (wanted subs) (λ (r : Record). q (find (keyOf r) (view subs other)) r) l)
+  where
+    same : (r : Record) → (q (find (keyOf r) other) r && wanted subs r) ≡ (wanted subs r && q (find (keyOf r) (view subs other)) r)
+    same r =
+        and-comm (q (find (keyOf r) other) r) (wanted subs r)
+        ∙ go (wanted subs r) (find-view (keyOf r) subs other)
+      where
+        go : (b : Bool) → find (keyOf r) (view subs other) ≡ cond b (find (keyOf r) other) Option.none
+            → (b && q (find (keyOf r) other) r) ≡ (b && q (find (keyOf r) (view subs other)) r)
+        go true h = sym (ap (λ (o : Option ℕ). q o r) h)
+        go false h = refl
 
-  leave : (r : Record) → (wanted subs r && not (held (keyOf r) (view subs store))) ≡ leaves subs store r
-  unfolding held butNot
-  leave r = go (wanted subs r) refl
-    where
-      go : (b : Bool) → wanted subs r ≡ b → (b && not (isSome (find (keyOf r) (view subs store)))) ≡ (b && not (isSome (find (keyOf r) store)))
-      go true h = ap (λ (o : Option ℕ). not (isSome o)) (found (keyOf r) r refl h)
-      go false h = refl
-
-  enter : (r : Record) → (wanted subs r && not (hasTtl (find (keyOf r) (view subs store)) (r .ttl))) ≡ enters subs store r
-  unfolding butNot
-  enter r = go (wanted subs r) refl
-    where
-      go : (b : Bool) → wanted subs r ≡ b
-          → (b && not (hasTtl (find (keyOf r) (view subs store)) (r .ttl))) ≡ (b && not (hasTtl (find (keyOf r) store) (r .ttl)))
-      go true h = ap (λ (o : Option ℕ). not (hasTtl o (r .ttl))) (found (keyOf r) r refl h)
-      go false h = refl
-
-module _ (subs : List Subscription) (old new : List Record) where
-  leaving-view : leaving (view subs old) (view subs new) ≡ keep (leaves subs new) old
-  leaving-view =
-      keep-keep (wanted subs) (λ (r : Record). not (held (keyOf r) (view subs new))) old
-      ∙ keep-same (λ (r : Record). wanted subs r && not (held (keyOf r) (view subs new))) (leaves subs new) old (leave subs new)
-
-  entering-view : entering (view subs old) (view subs new) ≡ keep (enters subs old) new
-  entering-view =
-      keep-keep (wanted subs) (λ (r : Record). not (hasTtl (find (keyOf r) (view subs old)) (r .ttl))) new
-      ∙ keep-same (λ (r : Record). wanted subs r && not (hasTtl (find (keyOf r) (view subs old)) (r .ttl))) (enters subs old) new (enter subs old)
+-- The records that left the store and those that are fresh in it, as a session sees them, are those of its view.
+pub changes-for : (subs : List Subscription) (old new : List Record)
+    → changesFor subs new (leaving old new) (entering old new) ≡ changes new (view subs old) (view subs new)
+unfolding changesFor changes held
+changes-for subs old new =
+    ap₂ (λ (x y : List Record). removals new x ++ additions y)
+    (keep-view (λ (o : Option ℕ) (r : Record). not (isSome o)) subs new old)
+    (keep-view (λ (o : Option ℕ) (r : Record). not (hasTtl o (r .ttl))) subs old new)
 
 map-map : (f : Record → Removal) (l : List Record) → map removal (map f l) ≡ map (λ (r : Record). removal (f r)) l
 map-map f [] = refl
 map-map f (r ∷ l) = ap (λ (m : List Change). removal (f r) ∷ m) (map-map f l)
 
--- The list of changes, by what the marks give.
-changes-sent : (subs : List Subscription) (old new : List Record)
-    → map removal (sent new (keep (leaves subs new) old)) ++ additions (keep (enters subs old) new) ≡ changes new (view subs old) (view subs new)
-unfolding changes removals
-changes-sent subs old new =
-    ap₂ (λ (x y : List Record). map removal (sent new x) ++ additions y) (sym (leaving-view subs old new)) (sym (entering-view subs old new))
-    ∙ ap (λ (l : List Change). l ++ additions (entering (view subs old) (view subs new)))
-    (map-map (chosen new (leaving (view subs old) (view subs new))) (firsts (chosen new (leaving (view subs old) (view subs new))) [] (leaving (view subs old) (view subs new))))
+sent-removals : (store gone : List Record) → map removal (sent store gone) ≡ removals store gone
+unfolding removals
+sent-removals store gone = map-map (chosen store gone) (firsts (chosen store gone) [] gone)
 
-pub marks-sent : (gone kinds : List ℕ) (old new : List Record) (p : Record → Bool) → marked gone old ≡ keep p old
-    → heads [] kinds old ≡ sent new (marked gone old) → heads [] kinds old ≡ sent new (keep p old)
-marks-sent gone kinds old new p e f = f ∙ ap (sent new) e
+pub marks-sent : (gone kinds : List ℕ) (old new seen : List Record) → marked gone old ≡ seen
+    → heads [] kinds old ≡ sent new (marked gone old) → heads [] kinds old ≡ sent new seen
+marks-sent gone kinds old new seen e f = f ∙ ap (sent new) e
 
-pub push-sent : (subs : List Subscription) (old new : List Record) (kinds added : List ℕ) (o p : List ℕ) (r : ℕ)
-    → heads [] kinds old ≡ sent new (keep (leaves subs new) old) → marked added new ≡ keep (enters subs old) new
+pub push-sent : (subs : List Subscription) (old new : List Record) (gone fresh kinds added : List ℕ) (o p : List ℕ) (r : ℕ)
+    → heads [] kinds old ≡ sent new (view subs (marked gone old)) → marked added new ≡ view subs (marked fresh new)
     → Pushed o (map removal (heads [] kinds old) ++ additions (marked added new)) p r
-    → (p ≡ sets o 0 (pushOf (changes new (view subs old) (view subs new)))) × (r ≡ length (pushOf (changes new (view subs old) (view subs new))))
-push-sent subs old new kinds added o p r e f w =
-    let z : map removal (heads [] kinds old) ++ additions (marked added new) ≡ changes new (view subs old) (view subs new) =
-    ap₂ (λ (x : List Removal) (y : List Record). map removal x ++ additions y) e f ∙ changes-sent subs old new in
-    (w .written ∙ ap (λ (cs : List Change). sets o 0 (pushOf cs)) z, w .count ∙ ap (λ (cs : List Change). length (pushOf cs)) z)
+    → Pushed o (changesFor subs new (marked gone old) (marked fresh new)) p r
+unfolding changesFor
+push-sent subs old new gone fresh kinds added o p r e f w =
+    let z : map removal (heads [] kinds old) ++ additions (marked added new) ≡ removals new (view subs (marked gone old)) ++ additions (view subs (marked fresh new)) =
+    ap₂ (λ (x : List Change) (y : List Record). x ++ additions y) (ap (map removal) e ∙ sent-removals new (view subs (marked gone old))) f in
+    rw z at w
 
 -- ---- from a place on
 

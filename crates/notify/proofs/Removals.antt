@@ -1,5 +1,5 @@
 -- Laws of the removals that hold a record: what each kind covers, which are true, and the widest true one.
-use Prim.Native.Nat.{ℕ, zero, suc, min, _+_, _≤_, _<_}
+use Prim.Native.Nat.{ℕ, zero, suc, min, _+_, _-_, _≤_, _<_}
 use mathlib.Core.Path.{_≡_, refl, sym, ap, ap₂, _∙_}
 use mathlib.Core.Bool.{Bool, true, false, cond, not, _&&_, _||_}
 use mathlib.Core.List.{List, [], _∷_}
@@ -9,13 +9,15 @@ use lib.Dec.{leb, eqb}
 use borrow.Author.Tests.{eq-eqb, ne-eqb, le-leb, lt-leb}
 use Rattle.wire.specs.Name.{lowered, sameOctets, sameName}
 use Rattle.zone.specs.Lists.{anyOf}
-use Rattle.zone.specs.Record.{Record, Key, keyOf, sameKey}
+use Rattle.zone.specs.Record.{Record, keyOf, sameKey}
 use Rattle.zone.specs.Batch.{maxRecords}
 use Rattle.zone.specs.Table.{blockAt, recOf, recordsOf, keyFrom}
+use Rattle.zone.proofs.Lists.{clash, never, not-or}
 use Rattle.push.specs.Change.{Removal, covers, isTrue}
-use Rattle.push.specs.List.{allTypesAt, rrsetAt, allClassesAt, widest}
+use Rattle.push.specs.List.{singleAt, rrsetAt, allTypesAt, allClassesAt, widest}
+use Rattle.push.proofs.Covers.{at-step}
 use Rattle.notify.proofs.Records.{records-end, records-next}
-use Rattle.notify.specs.Marks.{removalAt, kindOf, sameNumbers}
+use Rattle.notify.specs.Marks.{removalAt, kindOf, sameNumbers, narrowed}
 
 -- ---- what a removal covers
 
@@ -72,7 +74,7 @@ named false true = refl
 named false false = refl
 
 -- A collective removal covers what has its class, its type and its name, as far as its kind names them.
-covers-split : (k : ℕ) (a b : Record) → (k ≡ 0 → ⊥)
+pub covers-split : (k : ℕ) (a b : Record) → (k ≡ 0 → ⊥)
     → covers (removalAt k a) (keyOf b) ≡ (sameNumbers k a b && sameName (a .owner) (b .owner))
 unfolding covers removalAt sameNumbers sameName
 covers-split zero a b h = absurd (h refl)
@@ -98,60 +100,109 @@ module _ (k : ℕ) (a b : Record) (h : k ≡ 0 → ⊥) (t : Bool) (e : t ≡ sa
   pub covers-not : t ≡ false → false ≡ covers (removalAt k a) (keyOf b)
   covers-not g = sym (split ∙ ap (λ (s : Bool). s && sameName (a .owner) (b .owner)) g)
 
--- ---- a removal is true
+-- ---- the widest kind that spares a record
 
--- None of the first i records is covered.
-pub record Spared (m : Removal) (l : List Record) (i : ℕ) : Type 0 where
-  pub rest : isTrue l m ≡ isTrue (drop i l) m
+module _ (kind : ℕ) (a b : Record) (h : 0 < kind) (t : Bool) (e : t ≡ covers (removalAt kind a) (keyOf b)) where
+  narrowed-by : narrowed kind a b ≡ cond t (narrowed (kind - 1) a b) kind
+  unfolding narrowed
+  narrowed-by = go kind h e
+    where
+      go : (k : ℕ) → 0 < k → t ≡ covers (removalAt k a) (keyOf b) → narrowed k a b ≡ cond t (narrowed (k - 1) a b) k
+      go zero h e = absurd (omega arith)
+      go (suc k) h e =
+          let p : suc k - 1 ≡ k = omega arith in
+          ap₂ (λ (x : Bool) (j : ℕ). cond x (narrowed j a b) (suc k)) (sym e) (sym p)
 
-pub spared-none : (m : Removal) (l : List Record) → Spared m l 0
-spared-none m l = record { rest = refl }
+  pub narrowed-spared : t ≡ false → kind ≡ narrowed kind a b
+  narrowed-spared g = sym (narrowed-by ∙ ap (λ (x : Bool). cond x (narrowed (kind - 1) a b) kind) g)
 
-not-either : (a b : Bool) → not (a || b) ≡ (not a && not b)
-not-either true b = refl
-not-either false b = refl
+  pub narrowed-covered : t ≡ true → narrowed kind a b ≡ narrowed (kind - 1) a b
+  narrowed-covered g = narrowed-by ∙ ap (λ (x : Bool). cond x (narrowed (kind - 1) a b) kind) g
 
-isTrue-cons : (m : Removal) (r : Record) (l : List Record) → isTrue (r ∷ l) m ≡ (not (covers m (keyOf r)) && isTrue l m)
-unfolding isTrue
-isTrue-cons m r l = not-either (covers m (keyOf r)) (anyOf (λ (s : Record). covers m (keyOf s)) l)
+-- The kind is still to be narrowed.
+pub record Narrowing (most : ℕ) (a b : Record) (kind : ℕ) : Type 0 where
+  pub rest : narrowed most a b ≡ narrowed kind a b
 
-isTrue-nil : (m : Removal) → isTrue [] m ≡ true
-unfolding isTrue
-isTrue-nil m = refl
+pub narrowing-none : (most : ℕ) (a b : Record) → Narrowing most a b most
+narrowing-none most a b = record { rest = refl }
 
-module _ (m : Removal) (count : ℕ) (a : List ℕ) (i : ℕ) (s : Spared m (recordsOf count a) i) (n : ℕ) (e : n ≡ min count maxRecords) where
-  pub spared-all : n ≤ i → true ≡ isTrue (recordsOf count a) m
-  spared-all h = sym (s .rest ∙ ap (λ (l : List Record). isTrue l m) (records-end count a i n e h) ∙ isTrue-nil m)
+module _ (most : ℕ) (a b : Record) (kind : ℕ) (s : Narrowing most a b kind) where
+  pub narrowing-end : kind ≤ 0 → kind ≡ narrowed most a b
+  unfolding narrowed
+  narrowing-end h = let z : kind ≡ 0 = omega arith in z ∙ sym (s .rest ∙ ap (λ (k : ℕ). narrowed k a b) z)
 
-  module _ (h : i < n) (b : List ℕ) (f : b ≡ blockAt a i) (t : Bool) (g : t ≡ covers m (keyOf (recOf b))) where
-    next : isTrue (recordsOf count a) m ≡ (not t && isTrue (drop (i + 1) (recordsOf count a)) m)
-    next = s .rest ∙ ap (λ (l : List Record). isTrue l m) (records-next count a i n e h b f)
-        ∙ isTrue-cons m (recOf b) (drop (i + 1) (recordsOf count a))
-        ∙ ap (λ (x : Bool). not x && isTrue (drop (i + 1) (recordsOf count a)) m) (sym g)
+  module _ (h : 0 < kind) (t : Bool) (e : t ≡ covers (removalAt kind a) (keyOf b)) where
+    pub narrowing-spared : t ≡ false → kind ≡ narrowed most a b
+    narrowing-spared g = narrowed-spared kind a b h t e g ∙ sym (s .rest)
 
-    pub spared-not : t ≡ true → false ≡ isTrue (recordsOf count a) m
-    spared-not q = sym (next ∙ ap (λ (x : Bool). not x && isTrue (drop (i + 1) (recordsOf count a)) m) q)
-
-    pub spared-turn : t ≡ false → Spared m (recordsOf count a) (i + 1)
-    spared-turn q = record { rest = next ∙ ap (λ (x : Bool). not x && isTrue (drop (i + 1) (recordsOf count a)) m) q }
+    pub narrowing-turn : t ≡ true → Narrowing most a b (kind - 1)
+    narrowing-turn g = record { rest = s .rest ∙ narrowed-covered kind a b h t e g }
 
 -- ---- the widest true one
 
-module _ (store : List Record) (r : Record) (t : Bool) (e : t ≡ isTrue store (removalAt 3 r)) where
-  pub widest-classes : t ≡ true → 3 ≡ kindOf (widest store r)
-  unfolding widest removalAt kindOf
-  widest-classes g = rw (sym e ∙ g)
+module _ (r : Record) where
+  -- The widest kind up to one whose removal is true, or 0.
+  unfoldable pub widestTo : List Record → ℕ → ℕ
+  widestTo l zero = 0
+  widestTo l (suc kind) = cond (isTrue l (removalAt (suc kind) r)) (suc kind) (widestTo l kind)
 
-  module _ (g : t ≡ false) (u : Bool) (f : u ≡ isTrue store (removalAt 2 r)) where
-    pub widest-types : u ≡ true → 2 ≡ kindOf (widest store r)
-    unfolding widest removalAt kindOf
-    widest-types h = rw (sym e ∙ g, sym f ∙ h)
+  widest-to : (l : List Record) → kindOf (widest l r) ≡ widestTo l 3
+  unfolding widest removalAt kindOf widestTo
+  widest-to l = go (isTrue l (allClassesAt r)) (isTrue l (allTypesAt r)) (isTrue l (rrsetAt r))
+    where
+      go : (x y z : Bool) → kindOf (cond x (allClassesAt r) (cond y (allTypesAt r) (cond z (rrsetAt r) (singleAt r)))) ≡ cond x 3 (cond y 2 (cond z 1 0))
+      go true y z = refl
+      go false true z = refl
+      go false false true = refl
+      go false false false = refl
 
-    module _ (h : u ≡ false) (v : Bool) (d : v ≡ isTrue store (removalAt 1 r)) where
-      pub widest-set : v ≡ true → 1 ≡ kindOf (widest store r)
-      unfolding widest removalAt kindOf
-      widest-set i = rw (sym e ∙ g, sym f ∙ h, sym d ∙ i)
+  wider : (k : ℕ) (b : Record) → covers (removalAt (suc k) r) (keyOf b) ≡ true → covers (removalAt (suc (suc k)) r) (keyOf b) ≡ true
+  unfolding removalAt
+  wider zero b e = at-step 1 r (keyOf b) e
+  wider (suc zero) b e = at-step 0 r (keyOf b) e
+  wider (suc (suc k)) b e = e
 
-      pub widest-single : v ≡ false → 0 ≡ kindOf (widest store r)
-      unfolding widest removalAt kindOf
-      widest-single i = rw (sym e ∙ g, sym f ∙ h, sym d ∙ i)
+  -- Where a kind spares a record, no narrower one covers it.
+  still : (k : ℕ) (b : Record) → covers (removalAt (suc k) r) (keyOf b) ≡ false → narrowed k r b ≡ k
+  unfolding narrowed
+  still zero b e = refl
+  still (suc k) b e = rw (never (covers (removalAt (suc k) r) (keyOf b)) (λ h. clash (covers (removalAt (suc (suc k)) r) (keyOf b)) (wider k b h) e))
+
+  isTrue-cons : (m : Removal) (b : Record) (l : List Record) → isTrue (b ∷ l) m ≡ (not (covers m (keyOf b)) && isTrue l m)
+  unfolding isTrue
+  isTrue-cons m b l = not-or (covers m (keyOf b)) (anyOf (λ (s : Record). covers m (keyOf s)) l) (isTrue l m) refl
+
+  widest-cons : (b : Record) (l : List Record) (k : ℕ) → widestTo (b ∷ l) k ≡ widestTo l (narrowed k r b)
+  unfolding widestTo narrowed
+  widest-cons b l zero = refl
+  widest-cons b l (suc k) =
+      ap (λ (x : Bool). cond x (suc k) (widestTo (b ∷ l) k)) (isTrue-cons (removalAt (suc k) r) b l)
+      ∙ ap (cond (not (covers (removalAt (suc k) r) (keyOf b)) && isTrue l (removalAt (suc k) r)) (suc k)) (widest-cons b l k)
+      ∙ go (covers (removalAt (suc k) r) (keyOf b)) refl
+    where
+      go : (x : Bool) → covers (removalAt (suc k) r) (keyOf b) ≡ x
+          → cond (not x && isTrue l (removalAt (suc k) r)) (suc k) (widestTo l (narrowed k r b)) ≡ widestTo l (cond x (narrowed k r b) (suc k))
+      go true e = refl
+      go false e = ap (λ (j : ℕ). cond (isTrue l (removalAt (suc k) r)) (suc k) (widestTo l j)) (still k b e)
+
+  widest-nil : (k : ℕ) → widestTo [] k ≡ k
+  unfolding widestTo isTrue
+  widest-nil zero = refl
+  widest-nil (suc k) = refl
+
+-- What is left of a store narrows the kind further.
+pub record Widest (l : List Record) (r : Record) (kind i : ℕ) : Type 0 where
+  pub rest : kindOf (widest l r) ≡ widestTo r (drop i l) kind
+
+pub widest-none : (l : List Record) (r : Record) → Widest l r 3 0
+widest-none l r = record { rest = widest-to r l }
+
+module _ (count : ℕ) (a : List ℕ) (r : Record) (kind i : ℕ) (s : Widest (recordsOf count a) r kind i) (n : ℕ) (e : n ≡ min count maxRecords) where
+  pub widest-end : n ≤ i → kind ≡ kindOf (widest (recordsOf count a) r)
+  widest-end h = sym (s .rest ∙ ap (λ (l : List Record). widestTo r l kind) (records-end count a i n e h) ∙ widest-nil r kind)
+
+  pub widest-turn : i < n → (b : List ℕ) → b ≡ blockAt a i → (k : ℕ) → k ≡ narrowed kind r (recOf b) → Widest (recordsOf count a) r k (i + 1)
+  widest-turn h b f k g = record {
+    rest = s .rest ∙ ap (λ (l : List Record). widestTo r l kind) (records-next count a i n e h b f)
+        ∙ widest-cons r (recOf b) (drop (i + 1) (recordsOf count a)) kind ∙ ap (widestTo r (drop (i + 1) (recordsOf count a))) (sym g);
+  }

@@ -1,15 +1,14 @@
 -- Removals by number, and records of a store that octets mark.
 use Prim.Native.Nat.{ℕ, zero, suc, _+_, _-_}
-use mathlib.Core.Bool.{Bool, true, false, cond, not, _&&_, _||_, Bool·beq}
+use mathlib.Core.Bool.{Bool, cond, not, _&&_, _||_, Bool·beq}
 use mathlib.Core.List.{List, [], _∷_, _++_, map}
 use lib.ListN.{drop, getD}
 use lib.Dec.{leb, eqb}
 use Rattle.zone.specs.Lists.{onlyIf, anyOf}
 use Rattle.zone.specs.Record.{Record, Key, keyOf}
-use Rattle.zone.specs.Store.{find, held}
-use Rattle.zone.specs.Match.{Subscription, wanted}
+use Rattle.zone.specs.Match.{Subscription, view}
 use Rattle.push.specs.Change.{Removal, single, rrset, allTypes, allClasses, Change, addition, removal, covers}
-use Rattle.push.specs.List.{singleAt, rrsetAt, allTypesAt, allClassesAt, hasTtl, chosen, firsts}
+use Rattle.push.specs.List.{singleAt, rrsetAt, allTypesAt, allClassesAt, chosen, firsts, removals, additions}
 
 -- ---- the kinds of removals
 
@@ -29,6 +28,11 @@ kindOf (allClasses owner) = 3
 -- Whether a record has the class and the type that a collective removal of a kind at another names.
 unfoldable pub sameNumbers : ℕ → Record → Record → Bool
 sameNumbers kind a b = leb 3 kind || (eqb (a .rrclass) (b .rrclass) && (leb 2 kind || eqb (a .rrtype) (b .rrtype)))
+
+-- The widest kind up to one whose removal at a record spares another, or 0.
+unfoldable pub narrowed : ℕ → Record → Record → ℕ
+narrowed zero a b = 0
+narrowed (suc kind) a b = cond (covers (removalAt (suc kind) a) (keyOf b)) (narrowed kind a b) (suc kind)
 
 -- ---- marks: an octet for each record of a store, 0 where the record is passed over
 
@@ -89,18 +93,16 @@ kindMark store gone mark r = cond (isMarked mark) (kindOf (chosen store gone r) 
 abbrev pub sent : List Record → List Record → List Removal
 sent store gone = map (chosen store gone) (firsts (chosen store gone) [] gone)
 
--- ---- which records are marked
-
-unfoldable pub butNot : Bool → Bool → Bool
-butNot a b = a && not b
-
--- A record of the old store leaves a session's view.
-abbrev pub leaves : List Subscription → List Record → Record → Bool
-leaves subs new r = butNot (wanted subs r) (held (keyOf r) new)
-
--- A record of the new store enters a session's view, or has a new TTL.
-abbrev pub enters : List Subscription → List Record → Record → Bool
-enters subs old r = butNot (wanted subs r) (hasTtl (find (keyOf r) old) (r .ttl))
-
+-- The mark of a record that passes a test.
 unfoldable pub bit : Bool → ℕ
 bit b = cond b 1 0
+
+-- That of a record that fails it.
+unfoldable pub bitUnless : Bool → ℕ
+bitUnless b = bit (not b)
+
+-- ---- what a session is sent
+
+-- Where some records leave the store and others are fresh in it: the changes of those that the subscriptions match.
+unfoldable pub changesFor : List Subscription → List Record → List Record → List Record → List Change
+changesFor subs store gone fresh = removals store (view subs gone) ++ additions (view subs fresh)

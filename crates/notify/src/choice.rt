@@ -5,9 +5,9 @@ use crate::removal::ALL_CLASSES;
 use crate::removal::ALL_TYPES;
 use crate::removal::RRSET;
 use crate::removal::SINGLE;
-use crate::removal::covers;
-use crate::removal::is_true;
+use crate::removal::same_numbers;
 use crate::removal::widest;
+ghost use Prim.Native.Nat.{_<_};
 ghost use mathlib.Core.Path.{_≡_};
 ghost use mathlib.Core.List.{[]};
 ghost use Rattle.zone.specs.Record.{keyOf};
@@ -15,21 +15,23 @@ ghost use Rattle.zone.specs.Table.{recOf, recordsOf};
 ghost use Rattle.push.specs.List.{alike as areAlike, chosen as chosenAt};
 ghost use Rattle.notify.specs.Marks.{removalAt, kindOf, marked, toldApart, kindMark, heads, sent};
 
-// Whether just one of two removals at a's record covers b's, where b is marked.
+// Whether just one of two collective removals at a's record covers b's, where b is marked. It takes two that differ in b's numbers.
 fn tells_apart(mark: u8, narrow: u8, wide: u8, a: &[u8], b: &[u8]) -> bool
+    requires { ⌜ (0 < narrow) × (0 < wide) ⌝ }
     ensures { λ r. ⌜ r ≡ toldApart mark (removalAt narrow (recOf (now (a .entry)))) (removalAt wide (recOf (now (a .entry)))) (keyOf (recOf (now (b .entry)))) ⌝ }
 {
     if mark == 0 {
         return false;
     }
-    if covers(narrow, a, b) {
-        return !covers(wide, a, b);
+    if same_numbers(narrow, a, b) == same_numbers(wide, a, b) {
+        return false;
     }
-    covers(wide, a, b)
+    wire::same_name(zone::owner(a), zone::owner(b))
 }
 
-// Whether two removals at a's record cover the same of the marked records.
+// Whether two collective removals at a's record cover the same of the marked records.
 fn alike(narrow: u8, wide: u8, a: &[u8], old: &zone::Area, count: usize, gone: &Marks) -> bool
+    requires { ⌜ (0 < narrow) × (0 < wide) ⌝ }
     ensures { λ r. ⌜ r ≡ areAlike (marked (now (gone .entry)) (recordsOf count (now (old .entry)))) (removalAt narrow (recOf (now (a .entry)))) (removalAt wide (recOf (now (a .entry)))) ⌝ }
 {
     let n = zone::clamped(count);
@@ -54,17 +56,17 @@ fn chosen(
 ) -> u8
     ensures { λ r. ⌜ r ≡ kindOf (chosenAt (recordsOf news (now (new .entry))) (marked (now (gone .entry)) (recordsOf olds (now (old .entry)))) (recOf (now (a .entry)))) ⌝ }
 {
-    if is_true(RRSET, a, new, news) {
-        let wide = widest(a, new, news);
-        if alike(RRSET, wide, a, old, olds, gone) {
-            return RRSET;
-        }
-        if alike(ALL_TYPES, wide, a, old, olds, gone) {
-            return ALL_TYPES;
-        }
-        return ALL_CLASSES;
+    let wide = widest(a, new, news);
+    if wide == SINGLE {
+        return SINGLE;
     }
-    SINGLE
+    if alike(RRSET, wide, a, old, olds, gone) {
+        return RRSET;
+    }
+    if alike(ALL_TYPES, wide, a, old, olds, gone) {
+        return ALL_TYPES;
+    }
+    ALL_CLASSES
 }
 
 // A marked record's kind and one more; 0 for any other.

@@ -4,5 +4,8 @@ mod marks;
 mod message;
 mod removal;
 
+pub use marks::Marks;
+pub use marks::arrived;
+pub use marks::departed;
 pub use message::write_first;
 pub use message::write_push;

@@ -1,15 +1,18 @@
-// Which records of a store leave a session's view, enter it, or match a subscription: a mark for each.
+// Which records of a store have departed, arrived, or match subscriptions: a mark for each.
 // Memory is lent with a count: `old` and `olds`, `new` and `news` for stores, `subs` and `live` for subscriptions.
+use crate::removal::same_record;
 use zone::Found;
+ghost use mathlib.Core.Bool.{_&&_};
 ghost use mathlib.Core.Path.{_≡_};
+ghost use lib.ListN.{take, drop};
 ghost use Rattle.zone.specs.Lists.{keep};
 ghost use Rattle.zone.specs.Record.{keyOf};
 ghost use Rattle.zone.specs.Store.{find, held};
-ghost use Rattle.zone.specs.Match.{matches as matching, wanted as wantedBy};
+ghost use Rattle.zone.specs.Match.{matches as matching, wanted as wantedBy, view};
 ghost use Rattle.zone.specs.Table.{recOf, recordsOf, indexOf, foundAt};
 ghost use Rattle.session.specs.Table.{subscriptionsOf, subscription};
-ghost use Rattle.push.specs.List.{hasTtl};
-ghost use Rattle.notify.specs.Marks.{marked, leaves as leavesView, enters as entersView, bit};
+ghost use Rattle.push.specs.List.{hasTtl, leaving, entering};
+ghost use Rattle.notify.specs.Marks.{isMarked, marked, bit, bitUnless};
 
 // A mark for each record of a store.
 pub type Marks = [u8; zone::RECORDS];
@@ -28,9 +31,23 @@ fn find_in(area: &zone::Area, count: usize, b: &[u8]) -> Found
     )
 }
 
-fn is_held(area: &zone::Area, count: usize, b: &[u8]) -> bool
+// Whether a block's record stands at a place of a store.
+fn stands_at(area: &zone::Area, count: usize, place: usize, b: &[u8]) -> bool
+    ensures { λ r. ⌜ r ≡ held (keyOf (recOf (now (b .entry)))) (take 1 (drop place (recordsOf count (now (area .entry))))) ⌝ }
+{
+    if place < zone::clamped(count) {
+        return same_record(zone::block(area, place), b);
+    }
+    false
+}
+
+// Whether a store has a block's record. The place where it should stand is looked at first.
+fn is_held(area: &zone::Area, count: usize, place: usize, b: &[u8]) -> bool
     ensures { λ r. ⌜ r ≡ held (keyOf (recOf (now (b .entry)))) (recordsOf count (now (area .entry))) ⌝ }
 {
+    if stands_at(area, count, place, b) {
+        return true;
+    }
     match find_in(area, count, b) {
         Found::At(_) => true,
         Found::Nothing => false,
@@ -47,6 +64,16 @@ fn has_ttl(area: &zone::Area, count: usize, b: &[u8]) -> bool
     }
 }
 
+// The place behind one whose record is held. It is where to look first: no promise rests on it.
+fn behind(place: usize, mark: u8) -> usize {
+    if mark == 0 {
+        if place < zone::RECORDS {
+            return place + 1;
+        }
+    }
+    place
+}
+
 // Whether one of a session's subscriptions matches a block's record.
 fn is_wanted(subs: &session::Area, live: usize, b: &[u8]) -> bool
     ensures { λ r. ⌜ r ≡ wantedBy (subscriptionsOf live (now (subs .entry))) (recOf (now (b .entry))) ⌝ }
@@ -60,25 +87,20 @@ fn is_wanted(subs: &session::Area, live: usize, b: &[u8]) -> bool
     )
 }
 
-fn leaves(b: &[u8], subs: &session::Area, live: usize, new: &zone::Area, news: usize) -> u8
-    ensures { λ r. ⌜ r ≡ bit (leavesView (subscriptionsOf live (now (subs .entry))) (recordsOf news (now (new .entry))) (recOf (now (b .entry)))) ⌝ }
+fn unless(t: bool) -> u8
+    ensures { λ r. ⌜ r ≡ bitUnless t ⌝ }
 {
-    if is_wanted(subs, live, b) {
-        if is_held(new, news, b) {
-            return 0;
-        }
-        return 1;
-    }
-    0
+    if t { 0 } else { 1 }
 }
 
-fn enters(b: &[u8], subs: &session::Area, live: usize, old: &zone::Area, olds: usize) -> u8
-    ensures { λ r. ⌜ r ≡ bit (entersView (subscriptionsOf live (now (subs .entry))) (recordsOf olds (now (old .entry))) (recOf (now (b .entry)))) ⌝ }
+// Of a marked record: whether one of a session's subscriptions matches it.
+fn is_visible(mark: u8, b: &[u8], subs: &session::Area, live: usize) -> u8
+    ensures { λ r. ⌜ r ≡ bit (isMarked mark && wantedBy (subscriptionsOf live (now (subs .entry))) (recOf (now (b .entry)))) ⌝ }
 {
+    if mark == 0 {
+        return 0;
+    }
     if is_wanted(subs, live, b) {
-        if has_ttl(old, olds, b) {
-            return 0;
-        }
         return 1;
     }
     0
@@ -96,41 +118,53 @@ fn matches(b: &[u8], name: &[u8], rrtype: u16, rrclass: u16) -> u8
     0
 }
 
-pub fn leaving(
-    old: &zone::Area,
-    olds: usize,
-    new: &zone::Area,
-    news: usize,
-    subs: &session::Area,
-    live: usize,
-) -> Marks
-    ensures { λ r. ⌜ marked r (recordsOf olds (now (old .entry))) ≡ keep (leavesView (subscriptionsOf live (now (subs .entry))) (recordsOf news (now (new .entry)))) (recordsOf olds (now (old .entry))) ⌝ }
+// The records of the old store that the new one doesn't have. Those that stay keep their order, so the next of them should
+// stand behind the last.
+pub fn departed(old: &zone::Area, olds: usize, new: &zone::Area, news: usize) -> Marks
+    ensures { λ r. ⌜ marked r (recordsOf olds (now (old .entry))) ≡ leaving (recordsOf olds (now (old .entry))) (recordsOf news (now (new .entry))) ⌝ }
 {
     let mut marks = [0u8; zone::RECORDS];
     let n = zone::clamped(olds);
+    let mut place = 0;
     let mut i = 0;
     while i < n {
-        marks[i] = leaves(zone::block(old, i), subs, live, new, news);
+        let mark = unless(is_held(new, news, place, zone::block(old, i)));
+        marks[i] = mark;
+        place = behind(place, mark);
         i += 1;
     }
     marks
 }
 
-pub fn entering(
-    old: &zone::Area,
-    olds: usize,
-    new: &zone::Area,
-    news: usize,
-    subs: &session::Area,
-    live: usize,
-) -> Marks
-    ensures { λ r. ⌜ marked r (recordsOf news (now (new .entry))) ≡ keep (entersView (subscriptionsOf live (now (subs .entry))) (recordsOf olds (now (old .entry)))) (recordsOf news (now (new .entry))) ⌝ }
+// The records of the new store that the old one doesn't have, or has with another TTL.
+pub fn arrived(old: &zone::Area, olds: usize, new: &zone::Area, news: usize) -> Marks
+    ensures { λ r. ⌜ marked r (recordsOf news (now (new .entry))) ≡ entering (recordsOf olds (now (old .entry))) (recordsOf news (now (new .entry))) ⌝ }
 {
     let mut marks = [0u8; zone::RECORDS];
     let n = zone::clamped(news);
     let mut i = 0;
     while i < n {
-        marks[i] = enters(zone::block(new, i), subs, live, old, olds);
+        marks[i] = unless(has_ttl(old, olds, zone::block(new, i)));
+        i += 1;
+    }
+    marks
+}
+
+// Those of marked records that one of a session's subscriptions matches.
+pub fn visible(
+    area: &zone::Area,
+    count: usize,
+    among: &Marks,
+    subs: &session::Area,
+    live: usize,
+) -> Marks
+    ensures { λ r. ⌜ marked r (recordsOf count (now (area .entry))) ≡ view (subscriptionsOf live (now (subs .entry))) (marked (now (among .entry)) (recordsOf count (now (area .entry)))) ⌝ }
+{
+    let mut marks = [0u8; zone::RECORDS];
+    let n = zone::clamped(count);
+    let mut i = 0;
+    while i < n {
+        marks[i] = is_visible(among[i], zone::block(area, i), subs, live);
         i += 1;
     }
     marks

@@ -2,9 +2,8 @@
 // message: that of a session from an old and a new store, and the first of a subscription.
 use crate::choice::choose;
 use crate::marks::Marks;
-use crate::marks::entering;
-use crate::marks::leaving;
 use crate::marks::matched;
+use crate::marks::visible;
 use crate::removal::ALL_CLASSES;
 use crate::removal::ALL_TYPES;
 use crate::removal::SINGLE;
@@ -19,10 +18,10 @@ ghost use Rattle.zone.specs.Layout.{recordOctets};
 ghost use Rattle.zone.specs.Table.{blockSize, recOf, recordFrom, blockAt, recordsOf};
 ghost use Rattle.push.specs.Change.{removal, fieldsOf};
 ghost use Rattle.push.specs.Octets.{changesOctets, pushOf};
-ghost use Rattle.notify.specs.Marks.{removalAt, additionAt, marked, removalsOf, isHead, heads, markCovers, headAt, leaves, sent};
+ghost use Rattle.notify.specs.Marks.{removalAt, additionAt, marked, removalsOf, isHead, heads, markCovers, headAt, sent, changesFor};
 ghost use Rattle.notify.specs.Written.{Wrote, Step, room, frontLength, Fronted, Pushed};
 ghost use Rattle.zone.specs.Batch.{maxRecords};
-ghost use Rattle.push.specs.List.{additions, changes};
+ghost use Rattle.push.specs.List.{additions};
 ghost use Rattle.zone.specs.Lists.{keep};
 ghost use Rattle.zone.specs.Match.{matches, view};
 ghost use Rattle.session.specs.Table.{subscriptionsOf, subscription};
@@ -270,32 +269,36 @@ fn write_added(out: &mut [u8], new: &zone::Area, news: usize, added: &Marks) -> 
 fn removal_marks(
     old: &zone::Area,
     olds: usize,
+    gone: &Marks,
     new: &zone::Area,
     news: usize,
     subs: &session::Area,
     live: usize,
 ) -> Marks
-    ensures { λ r. ⌜ heads [] r (recordsOf olds (now (old .entry))) ≡ sent (recordsOf news (now (new .entry))) (keep (leaves (subscriptionsOf live (now (subs .entry))) (recordsOf news (now (new .entry)))) (recordsOf olds (now (old .entry)))) ⌝ }
+    ensures { λ r. ⌜ heads [] r (recordsOf olds (now (old .entry))) ≡ sent (recordsOf news (now (new .entry))) (view (subscriptionsOf live (now (subs .entry))) (marked (now (gone .entry)) (recordsOf olds (now (old .entry))))) ⌝ }
 {
-    let gone = leaving(old, olds, new, news, subs, live);
-    choose(old, olds, &gone, new, news)
+    let leaving = visible(old, olds, gone, subs, live);
+    choose(old, olds, &leaving, new, news)
 }
 
 // The PUSH that a session with these subscriptions is sent when the old store has become the new one, from the front of its
-// output on; how many octets it has. What does not fit is not written.
+// output on; how many octets it has. Marked are the old records that are gone and the new ones that are fresh. What does not
+// fit is not written.
 pub fn write_push(
     old: &zone::Area,
     olds: usize,
+    gone: &Marks,
     new: &zone::Area,
     news: usize,
+    fresh: &Marks,
     subs: &session::Area,
     live: usize,
     out: &mut [u8],
 ) -> usize
-    ensures { λ r. ⌜ (now (out .exit) ≡ sets (now (out .entry)) 0 (pushOf (changes (recordsOf news (now (new .entry))) (view (subscriptionsOf live (now (subs .entry))) (recordsOf olds (now (old .entry)))) (view (subscriptionsOf live (now (subs .entry))) (recordsOf news (now (new .entry))))))) × (r ≡ length (pushOf (changes (recordsOf news (now (new .entry))) (view (subscriptionsOf live (now (subs .entry))) (recordsOf olds (now (old .entry)))) (view (subscriptionsOf live (now (subs .entry))) (recordsOf news (now (new .entry))))))) ⌝ }
+    ensures { λ r. ⌜ Pushed (now (out .entry)) (changesFor (subscriptionsOf live (now (subs .entry))) (recordsOf news (now (new .entry))) (marked (now (gone .entry)) (recordsOf olds (now (old .entry)))) (marked (now (fresh .entry)) (recordsOf news (now (new .entry))))) (now (out .exit)) r ⌝ }
 {
-    let kinds = removal_marks(old, olds, new, news, subs, live);
-    let added = entering(old, olds, new, news, subs, live);
+    let kinds = removal_marks(old, olds, gone, new, news, subs, live);
+    let added = visible(new, news, fresh, subs, live);
     write_changes(out, old, olds, &kinds, new, news, &added)
 }
 

@@ -2,9 +2,9 @@
 ghost use mathlib.Core.Path.{_≡_};
 ghost use Rattle.zone.specs.Record.{keyOf, sameKey};
 ghost use Rattle.zone.specs.Table.{recOf, recordsOf};
-ghost use Rattle.push.specs.Change.{covers as isCovered, isTrue};
+ghost use Rattle.push.specs.Change.{covers as isCovered};
 ghost use Rattle.push.specs.List.{widest as widestTrue};
-ghost use Rattle.notify.specs.Marks.{removalAt, kindOf, sameNumbers};
+ghost use Rattle.notify.specs.Marks.{removalAt, kindOf, sameNumbers, narrowed};
 
 pub const SINGLE: u8 = 0;
 
@@ -15,7 +15,7 @@ pub const ALL_TYPES: u8 = 2;
 pub const ALL_CLASSES: u8 = 3;
 
 // Whether two blocks hold the same record, TTL and spelling apart.
-fn same_record(a: &[u8], b: &[u8]) -> bool
+pub fn same_record(a: &[u8], b: &[u8]) -> bool
     ensures { λ r. ⌜ r ≡ sameKey (keyOf (recOf (now (a .entry)))) (keyOf (recOf (now (b .entry)))) ⌝ }
 {
     zone::has_key(
@@ -28,7 +28,7 @@ fn same_record(a: &[u8], b: &[u8]) -> bool
 }
 
 // Whether b has the class and the type that a collective removal of a kind at a names.
-fn same_numbers(kind: u8, a: &[u8], b: &[u8]) -> bool
+pub fn same_numbers(kind: u8, a: &[u8], b: &[u8]) -> bool
     ensures { λ r. ⌜ r ≡ sameNumbers kind (recOf (now (a .entry))) (recOf (now (b .entry))) ⌝ }
 {
     if ALL_CLASSES <= kind {
@@ -56,33 +56,31 @@ pub fn covers(kind: u8, a: &[u8], b: &[u8]) -> bool
     false
 }
 
-// Whether the removal of a kind at a's record covers no record of a store.
-pub fn is_true(kind: u8, a: &[u8], store: &zone::Area, count: usize) -> bool
-    ensures { λ r. ⌜ r ≡ isTrue (recordsOf count (now (store .entry))) (removalAt kind (recOf (now (a .entry)))) ⌝ }
+// The widest kind up to one whose removal at a's record spares b's, or SINGLE.
+fn sparing(most: u8, a: &[u8], b: &[u8]) -> u8
+    ensures { λ r. ⌜ r ≡ narrowed most (recOf (now (a .entry))) (recOf (now (b .entry))) ⌝ }
 {
-    let n = zone::clamped(count);
-    let mut i = 0;
-    while i < n {
-        if covers(kind, a, zone::block(store, i)) {
-            return false;
+    let mut kind = most;
+    while SINGLE < kind {
+        if covers(kind, a, b) {
+            kind -= 1;
+        } else {
+            return kind;
         }
-        i += 1;
     }
-    true
+    kind
 }
 
-// The kind of the widest true removal.
+// The kind of the widest true removal: the widest that spares each record of a store.
 pub fn widest(a: &[u8], store: &zone::Area, count: usize) -> u8
     ensures { λ r. ⌜ r ≡ kindOf (widestTrue (recordsOf count (now (store .entry))) (recOf (now (a .entry)))) ⌝ }
 {
-    if is_true(ALL_CLASSES, a, store, count) {
-        return ALL_CLASSES;
+    let n = zone::clamped(count);
+    let mut kind = ALL_CLASSES;
+    let mut i = 0;
+    while i < n {
+        kind = sparing(kind, a, zone::block(store, i));
+        i += 1;
     }
-    if is_true(ALL_TYPES, a, store, count) {
-        return ALL_TYPES;
-    }
-    if is_true(RRSET, a, store, count) {
-        return RRSET;
-    }
-    SINGLE
+    kind
 }

@@ -44,7 +44,19 @@ fn batch(
             s
         }
         BatchResult::Stored(news) => {
-            let n = notify::write_push(old, s.records, new, news, subs, s.live, &mut out);
+            let gone = notify::departed(old, s.records, new, news);
+            let fresh = notify::arrived(old, s.records, new, news);
+            let n = notify::write_push(
+                old,
+                s.records,
+                &gone,
+                new,
+                news,
+                &fresh,
+                subs,
+                s.live,
+                &mut out,
+            );
             let push = part(&out, 0, n);
             answer::batch(answer::done(push), push);
             State {

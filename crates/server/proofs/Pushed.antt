@@ -4,7 +4,7 @@ use native.Mathlib.Omega.{arith}
 use mathlib.Core.Bool.{Bool, true, false, cond, not, _&&_}
 use mathlib.Core.List.{List, [], _∷_, _++_, map}
 use mathlib.Core.Option.{Option, none, some}
-use mathlib.Core.Path.{_≡_, refl, sym, ap, subst, _∙_}
+use mathlib.Core.Path.{_≡_, refl, sym, ap, ap₂, subst, _∙_}
 use lib.ListN.{length, take, drop}
 use lib.Seq.{sets}
 use lib.Dec.{eqb}
@@ -15,15 +15,17 @@ use Rattle.wire.proofs.Writes.{sets-lent-rest}
 use Rattle.session.specs.Table.{subscriptionsOf}
 use Rattle.zone.specs.Lists.{allOf}
 use Rattle.zone.specs.Record.{Record}
-use Rattle.zone.specs.Match.{view}
+use Rattle.zone.specs.Match.{Subscription}
 use Rattle.zone.specs.Table.{recordsOf}
 use Rattle.zone.specs.Batch.{batchOf, Edited, stored, faulty}
 use Rattle.zone.specs.Batches.{editedOf}
 use Rattle.zone.specs.declared.BatchFault.{BatchFault}
 use Rattle.zone.specs.declared.editing.BatchResult.{BatchResult}
 use Rattle.zone.specs.declared.editing.BatchResult.the-variants.{Stored, Faulty}
-use Rattle.push.specs.List.{changes}
 use Rattle.push.specs.Octets.{pushOf}
+use Rattle.notify.specs.Marks.{marked, changesFor}
+use Rattle.notify.specs.Written.{Pushed}
+use Rattle.notify.proofs.Messages.{changes-for}
 use Rattle.service.specs.State.{State, Slot}
 use Rattle.service.specs.Answer.{done, sent, refused}
 use Rattle.service.specs.Answer as Service
@@ -44,24 +46,24 @@ use Rattle.server.specs.declared.state.Server.{Server}
 use Rattle.server.specs.Memory.{Memory, withAreas, memoryOf, holding, slotOf, slotsOf, stateOf}
 use Rattle.server.specs.Checks.{refusedBy}
 use Rattle.server.specs.Answers.{Gives, answerOf, countsOf, refusing}
-use Rattle.server.specs.Pushing.{Tells, TellsAll, Announces, Edits, toldOf, committedOf, putOther, slotsAt}
+use Rattle.server.specs.Pushing.{Tells, Changed, TellsAll, Announces, Edits, toldOf, committedOf, putOther, slotsAt}
 use Rattle.server.proofs.States.{slot-live, slot-dead}
 use Rattle.server.proofs.Outcomes.{gives-passed}
 
 -- ---- one session
 
-pub tell-live : (x : Session) (old new : List Record) (subs o p : List ℕ) (at place n : ℕ) → x .live ≡ true → at ≡ place
-    → (p
-    ≡ sets (take (length o - at) (drop at o)) 0
-    (pushOf (changes new (view (subscriptionsOf (x .count) subs) old) (view (subscriptionsOf (x .count) subs) new))))
-    × (n ≡ length (pushOf (changes new (view (subscriptionsOf (x .count) subs) old) (view (subscriptionsOf (x .count) subs) new))))
+pub tell-live : (x : Session) (old new : List Record) (gone fresh subs o p : List ℕ) (at place n : ℕ) → x .live ≡ true → at ≡ place
+    → Changed old new gone fresh
+    → Pushed (take (length o - at) (drop at o)) (changesFor (subscriptionsOf (x .count) subs) new (marked gone old) (marked fresh new)) p n
     → Tells (pushTo old new (slotOf x subs)) place o (take at o ++ (p ++ drop (length o - at) (drop at o))) n
-tell-live x old new subs o p at place n h q e =
-    let w : List ℕ = pushOf (changes new (view (subscriptionsOf (x .count) subs) old) (view (subscriptionsOf (x .count) subs) new)) in
-    let same : pushTo old new (slotOf x subs) ≡ w = ap (pushTo old new) (slot-live x subs h) in
+tell-live x old new gone fresh subs o p at place n h q m e =
+    let l : List Subscription = subscriptionsOf (x .count) subs in
+    let w : List ℕ = pushOf (changesFor l new (marked gone old) (marked fresh new)) in
+    let same : w ≡ pushTo old new (slotOf x subs) =
+    ap pushOf (ap₂ (changesFor l new) (m .left) (m .entered) ∙ changes-for l old new) ∙ sym (ap (pushTo old new) (slot-live x subs h)) in
     record {
-      written = sets-lent-rest o p w at (e .0) ∙ ap (sets o at) (sym same) ∙ ap (λ (k : ℕ). sets o k (pushTo old new (slotOf x subs))) q;
-      counted = e .1 ∙ ap length (sym same);
+      written = sets-lent-rest o p w at (e .written) ∙ ap (sets o at) same ∙ ap (λ (k : ℕ). sets o k (pushTo old new (slotOf x subs))) q;
+      counted = e .count ∙ ap length same;
     }
 
 pub tell-dead : (x : Session) (old new : List Record) (subs o : List ℕ) (at : ℕ) → x .live ≡ false

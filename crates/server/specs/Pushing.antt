@@ -8,6 +8,8 @@ use lib.Seq.{sets}
 use lib.Dec.{eqb}
 use Rattle.zone.specs.Lists.{allOf}
 use Rattle.zone.specs.Record.{Record}
+use Rattle.push.specs.List.{leaving, entering}
+use Rattle.notify.specs.Marks.{marked}
 use Rattle.service.specs.State.{Slot}
 use Rattle.service.specs.Answer.{done, sent}
 use Rattle.service.specs.Answer as Service
@@ -22,6 +24,11 @@ use Rattle.server.specs.Answers.{Gives, answerOf, countsOf}
 pub record Tells (w : List ℕ) (at : ℕ) (o o′ : List ℕ) (n : ℕ) : Type 0 where
   pub written : o′ ≡ sets o at w
   pub counted : n ≡ length w
+
+-- Marks of what a batch changes: the records that leave the store, and those that are fresh in it.
+pub record Changed (old new : List Record) (gone fresh : List ℕ) : Type 0 where
+  pub left : marked gone old ≡ leaving old new
+  pub entered : marked fresh new ≡ entering old new
 
 abbrev pub slotsAt : Server → List ℕ → List ℕ → List ℕ → List ℕ → List Slot
 slotsAt s a b c d = slotOf (s .s0) a ∷ slotOf (s .s1) b ∷ slotOf (s .s2) c ∷ slotOf (s .s3) d ∷ []

@@ -11,6 +11,9 @@ use crate::output::output_at;
 use crate::starting::Name;
 use crate::state::Server;
 use crate::state::Session;
+use notify::Marks;
+use notify::arrived;
+use notify::departed;
 use notify::write_push;
 use service::Refusal;
 use table::part;
@@ -24,7 +27,7 @@ ghost use Rattle.service.specs.State.{maxSessions};
 ghost use Rattle.service.specs.Checks.{outputSize, leastOutput};
 ghost use Rattle.server.specs.Memory.{slotOf, memoryOf};
 ghost use Rattle.server.specs.Answers.{answerOf, countsOf, Serves};
-ghost use Rattle.server.specs.Pushing.{Tells, TellsAll, toldOf, committedOf, Announces, slotsAt, Edits};
+ghost use Rattle.server.specs.Pushing.{Tells, Changed, TellsAll, toldOf, committedOf, Announces, slotsAt, Edits};
 ghost use mathlib.Core.Bool.{true};
 ghost use lib.Pow.{areBytes};
 
@@ -34,34 +37,48 @@ fn tell(
     i: u32,
     old: &zone::Area,
     olds: usize,
+    gone: &Marks,
     new: &zone::Area,
     news: usize,
+    fresh: &Marks,
     subs: &session::Area,
     out: &mut [u8],
 ) -> usize
-    requires { ⌜ (i < maxSessions) × (leastOutput ≤ length (now out)) ⌝ }
+    requires { ⌜ (i < maxSessions) × (leastOutput ≤ length (now out)) × Changed (recordsOf olds (now old)) (recordsOf news (now new)) (now gone) (now fresh) ⌝ }
     ensures { λ r. ⌜ Tells (pushTo (recordsOf olds (now (old .entry))) (recordsOf news (now (new .entry))) (slotOf x (now (subs .entry)))) (i * outputSize) (now (out .entry)) (now (out .exit)) r ⌝ }
 {
     if x.live {
         let at = output_at(i);
-        return write_push(old, olds, new, news, subs, x.count, &mut out[at..]);
+        return write_push(
+            old,
+            olds,
+            gone,
+            new,
+            news,
+            fresh,
+            subs,
+            x.count,
+            &mut out[at..],
+        );
     }
     0
 }
 
-// Those of the first two sessions, and of the last two.
+// Those of all sessions.
 fn tell_all(
     server: Server,
     old: &zone::Area,
+    gone: &Marks,
     new: &zone::Area,
     news: usize,
+    fresh: &Marks,
     s0: &session::Area,
     s1: &session::Area,
     s2: &session::Area,
     s3: &session::Area,
     out: &mut [u8],
 ) -> Counts
-    requires { ⌜ leastOutput ≤ length (now out) ⌝ }
+    requires { ⌜ (leastOutput ≤ length (now out)) × Changed (recordsOf (server .records) (now old)) (recordsOf news (now new)) (now gone) (now fresh) ⌝ }
     ensures { λ r. ⌜ TellsAll (recordsOf (server .records) (now (old .entry))) (recordsOf news (now (new .entry))) (slotsAt server (now (s0 .entry)) (now (s1 .entry)) (now (s2 .entry)) (now (s3 .entry))) (now (out .entry)) (now (out .exit)) r ⌝ }
 {
     let x0 = server.s0;
@@ -69,10 +86,10 @@ fn tell_all(
     let x2 = server.s2;
     let x3 = server.s3;
     Counts {
-        c0: tell(x0, 0, old, server.records, new, news, s0, out),
-        c1: tell(x1, 1, old, server.records, new, news, s1, out),
-        c2: tell(x2, 2, old, server.records, new, news, s2, out),
-        c3: tell(x3, 3, old, server.records, new, news, s3, out),
+        c0: tell(x0, 0, old, server.records, gone, new, news, fresh, s0, out),
+        c1: tell(x1, 1, old, server.records, gone, new, news, fresh, s1, out),
+        c2: tell(x2, 2, old, server.records, gone, new, news, fresh, s2, out),
+        c3: tell(x3, 3, old, server.records, gone, new, news, fresh, s3, out),
     }
 }
 
@@ -106,6 +123,7 @@ fn committed(mut server: Server, t: u64, records: usize) -> Server
     server
 }
 
+// What the batch changes is found once, for all sessions.
 fn announced(
     server: Server,
     t: u64,
@@ -121,7 +139,9 @@ fn announced(
     requires { ⌜ leastOutput ≤ length (now out) ⌝ }
     ensures { λ r. ⌜ Announces server t news (recordsOf (server .records) (now (old .entry))) (recordsOf news (now (new .entry))) (slotsAt server (now (s0 .entry)) (now (s1 .entry)) (now (s2 .entry)) (now (s3 .entry))) (now (out .entry)) (now (out .exit)) r ⌝ }
 {
-    let counts = tell_all(server, old, new, news, s0, s1, s2, s3, out);
+    let gone = departed(old, server.records, new, news);
+    let fresh = arrived(old, server.records, new, news);
+    let counts = tell_all(server, old, &gone, new, news, &fresh, s0, s1, s2, s3, out);
     Outcome {
         server: committed(server, t, news),
         answer: told(counts),

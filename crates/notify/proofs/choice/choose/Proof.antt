@@ -4,12 +4,14 @@ use native.Mathlib.Omega.{arith}
 use borrow.Author.Needs.{needs}
 use mathlib.Core.Path.{refl}
 use Rattle.zone.specs.Table.{recordsOf}
-use Rattle.notify.proofs.Choices.{Choosing, choosing-none, choosing-turn, choosing-all}
+use Rattle.notify.specs.Marks.{marked, kindMark}
+use Rattle.notify.proofs.Marked.{Filling, filling-none, filling-turn}
+use Rattle.notify.proofs.Choices.{choosing-all}
 use Rattle.notify.proofs.choice.choose.Statement.{statement}
 use Rattle.notify.proofs.choice.choose.Tie as tie
 
 abbrev Inv-loop : tie.InvT-loop
-Inv-loop old olds gone new news kinds₀ n i₀ kinds i = Choosing (recordsOf news new) gone (recordsOf olds old) kinds i
+Inv-loop old olds gone new news kinds₀ n i₀ kinds i = Filling (kindMark (recordsOf news new) (marked gone (recordsOf olds old))) gone (recordsOf olds old) kinds i
 
 abbrev μ-loop : tie.MeasureT-loop
 μ-loop old olds gone new news kinds₀ n i₀ kinds i = n - i
@@ -21,12 +23,12 @@ choose-spec =
     Inv-loop
     μ-loop
     (λ c κs. search needs)
-    (λ c. choosing-none _ _ _ _ refl)
+    (λ c. filling-none _ _ _ _ refl)
     (λ c. omega arith)
     (λ c κs. search needs)
     (λ c κs. search needs)
     (λ c. omega arith)
     (λ c. omega arith)
     (λ c. omega arith)
-    (λ c. search choosing-turn)
+    (λ c. search filling-turn)
     (λ c. search choosing-all))

@@ -9,10 +9,9 @@ chosen-spec =
     tie.close
     (tie.spec
     (λ c κs. search needs)
-    (λ c κs. search needs)
+    (λ c. search chosen-single)
     (λ c κs. search needs)
     (λ c. search chosen-set)
     (λ c κs. search needs)
     (λ c. search chosen-types)
-    (λ c. search chosen-classes)
-    (λ c. search chosen-single))
+    (λ c. search chosen-classes))

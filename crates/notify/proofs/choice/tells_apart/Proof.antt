@@ -1,6 +1,6 @@
 -- `notify::choice::tells_apart` meets its contract. Assumes nothing.
 use borrow.Author.Needs.{needs}
-use Rattle.notify.proofs.Marked.{apart-unmarked, apart-covered, apart-spared}
+use Rattle.notify.proofs.Marked.{apart-unmarked, apart-same, apart-named}
 use Rattle.notify.proofs.choice.tells_apart.Statement.{statement}
 use Rattle.notify.proofs.choice.tells_apart.Tie as tie
 
@@ -11,6 +11,8 @@ tells-apart-spec =
     (λ c. search apart-unmarked)
     (λ c κs. search needs)
     (λ c κs. search needs)
-    (λ c. search apart-covered)
+    (λ c. search apart-same)
     (λ c κs. search needs)
-    (λ c. search apart-spared))
+    (λ c κs. search needs)
+    (λ c κs. search needs)
+    (λ c. search apart-named))

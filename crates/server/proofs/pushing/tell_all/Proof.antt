@@ -4,10 +4,6 @@ use Rattle.server.proofs.Pushed.{tells-all}
 use Rattle.server.proofs.pushing.tell_all.Statement.{statement}
 use Rattle.server.proofs.pushing.tell_all.Tie as tie
 
-returns : tie.Need-returns
-returns c =
-    tells-all (c .before .before .before .before .before .before .before .before .before .before .before .before .before .before .before .before .before .before .before .before .before .args .server) _ _ _ _ _ _ _ _ _ _ _ _ _ _ _ (c .before .before .before .before .before .before .before .before .before .before .before .before .before .before .tell .ensures) (c .before .before .before .before .before .before .before .before .before .before .tell2 .ensures) (c .before .before .before .before .before .before .tell3 .ensures) (c .before .before .tell4 .ensures)
-
 pub tell-all-spec : {M : Type 1} → statement M
 tell-all-spec =
     tie.close
@@ -17,4 +13,4 @@ tell-all-spec =
     (λ c κs. search needs)
     (λ c κs. search needs)
     (λ c. search needs)
-    returns)
+    (λ c. search tells-all))
