@@ -1,6 +1,6 @@
 -- Laws of the store in lent memory: its blocks, keys, the search for a key.
 use Prim.Native.Nat.{ℕ, suc, min, _+_, _*_, _≤_, _<_}
-use mathlib.Core.Path.{_≡_, refl, sym, ap, _∙_}
+use mathlib.Core.Path.{_≡_, refl, sym, ap, ap₂, _∙_}
 use mathlib.Core.Bool.{Bool, true, false, cond, _&&_}
 use mathlib.Core.List.{List, [], _∷_, map}
 use mathlib.Core.Option.{some}
@@ -20,6 +20,7 @@ use Rattle.table.proofs.Blocks.{length-blocks, blocks-at, take-blocks, take-map
 use Rattle.zone.specs.Record.{Record, Key, keyOf, sameKey}
 use Rattle.zone.specs.Batch.{maxRecords}
 use Rattle.zone.specs.Table.{blockSize, areaSize, blockAt, recOf, recordsOf, keyFrom, indexOf, foundAt}
+use Rattle.zone.specs.Update.{keyed, Passes}
 use Rattle.zone.specs.declared.records.Found.the-variants.{At, Nothing}
 use Rattle.zone.proofs.Lists.{never, clash}
 use Rattle.zone.proofs.Keys.{sameKey-true}
@@ -80,6 +81,25 @@ module _ (r : Record) (name : List ℕ) (t c : ℕ) (d : List ℕ) where
       alone true x y z p q e = cc
       alone false x y z p q e = refl
 
+-- A key told from a block's by a quick look at the RDATA; and otherwise.
+module _ (a : List ℕ) (i : ℕ) (name : List ℕ) (t c : ℕ) (d : List ℕ) (b : List ℕ) (f : b ≡ blockAt a i) where
+  pub key-passed : (w : Bool) → w ≡ sameKey (keyOf (recOf b)) (keyFrom name t c d) → w ≡ keyed a i (keyFrom name t c d)
+  key-passed w e = e ∙ ap (λ (b : List ℕ). sameKey (keyOf (recOf b)) (keyFrom name t c d)) f
+
+  pub key-failed : (x : List ℕ) (p : Bool) → x ≡ recOf b .rdata → Passes x d p → p ≡ false → false ≡ keyed a i (keyFrom name t c d)
+  key-failed x p e s h =
+      key-passed false (sym (never (sameKey (keyOf (recOf b)) (keyFrom name t c d))
+      (λ q. clash p (s .equal (e ∙ ap (λ (k : Key). k .rdata) (equal (recOf b) name t c d q))) h)))
+
+pub passes-length : (a b : List ℕ) → (length a ≡ length b → ⊥) → Passes a b false
+passes-length a b h = record { equal = λ e. absurd (h (ap length e)) }
+
+pub passes-ends : (a b : List ℕ) (i j : ℕ) → Passes a b (eqb (getD a i 0) (getD b i 0) && eqb (getD a j 0) (getD b j 0))
+passes-ends a b i j = record { equal = λ e. ap₂ _&&_ (at i e) (at j e) }
+  where
+    at : (k : ℕ) → a ≡ b → eqb (getD a k 0) (getD b k 0) ≡ true
+    at k e = eq-eqb (getD a k 0) (getD b k 0) (ap (λ (l : List ℕ). getD l k 0) e)
+
 -- ---- the store as a list
 
 pub length-records : (n : ℕ) (a : List ℕ) → length (recordsOf n a) ≡ min n maxRecords
@@ -129,8 +149,8 @@ searched-end k a count n i s e h =
     let g : length l ≤ i = omega (arith, length-records count a) in
     sym (ap foundAt (s .rest ∙ ap (λ (m : List Record). after i (indexOf k m)) (drop-of-length-le l g)))
 
-module _ (k : Key) (a : List ℕ) (count n i : ℕ) (b : List ℕ) (t : Bool) (s : Searched k (recordsOf count a) i)
-    (e : n ≡ min count maxRecords) (h : i < n) (f : b ≡ blockAt a i) (g : t ≡ sameKey (keyOf (recOf b)) k) where
+module _ (k : Key) (a : List ℕ) (count n i : ℕ) (t : Bool) (s : Searched k (recordsOf count a) i)
+    (e : n ≡ min count maxRecords) (h : i < n) (g : t ≡ keyed a i k) where
   store : List Record
   store = recordsOf count a
 
@@ -140,7 +160,7 @@ module _ (k : Key) (a : List ℕ) (count n i : ℕ) (b : List ℕ) (t : Bool) (s
       let l : i < min count maxRecords = omega arith in
       let w : i < length (recordsOf count a) = omega (arith, length-records count a) in
       let q : sameKey (keyOf (getD (recordsOf count a) i noRecord)) k ≡ t =
-      ap (λ (r : Record). sameKey (keyOf r) k) (records-at count a i l ∙ ap recOf (sym f)) ∙ sym g in
+      ap (λ (r : Record). sameKey (keyOf r) k) (records-at count a i l) ∙ sym g in
       s .rest ∙ ap (λ (m : List Record). after i (indexOf k m)) (drop-cons (recordsOf count a) i noRecord w)
       ∙ ap (λ (u : Bool). after i (cond u (some 0) (after 1 (indexOf k (drop (suc i) (recordsOf count a)))))) q
 

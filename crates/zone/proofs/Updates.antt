@@ -100,12 +100,9 @@ ttl-set t a i b l h f e = record {
       ∙ ap (set (recordsOf n a) i) (recOf-timed (blockAt a i) t (omega (arith, length-block a i l h)) f);
 }
 
-module _ (k : Key) (t : ℕ) (a : List ℕ) (i : ℕ) (b c : List ℕ) (u : Bool) (e : c ≡ blockAt a i) (f : u ≡ sameKey (keyOf (recOf c)) k) where
-  tested : keyed a i k ≡ u
-  tested = ap (λ (c : List ℕ). sameKey (keyOf (recOf c)) k) (sym e) ∙ sym f
-
+module _ (k : Key) (t : ℕ) (a : List ℕ) (i : ℕ) (b : List ℕ) (u : Bool) (f : u ≡ keyed a i k) where
   chosen : (v : Bool) → u ≡ v → setIf k t (recOf (blockAt a i)) ≡ cond v (withTtl t (recOf (blockAt a i))) (recOf (blockAt a i))
-  chosen v g = ap (λ (x : Bool). cond x (withTtl t (recOf (blockAt a i))) (recOf (blockAt a i))) (tested ∙ g)
+  chosen v g = ap (λ (x : Bool). cond x (withTtl t (recOf (blockAt a i))) (recOf (blockAt a i))) (sym f ∙ g)
 
   pub ttl-set-true : u ≡ true → TtlSet t a i b → TtlSetIf k t a i b
   ttl-set-true g s = record { store = λ n m h. s .store n m h ∙ ap (set (recordsOf n a) i) (sym (chosen true g)) }
@@ -150,22 +147,19 @@ records-slid n a b i l h g e =
     ∙ ap (map recOf) (blocks-slid blockSize n a i g (omega arith)) ∙ map-cut recOf i (blocks blockSize n a)
     ∙ ap (cut i) (sym (records-plain n a h))
 
-module _ (k : Key) (a : List ℕ) (n i : ℕ) (b c : List ℕ) (u : Bool) (e : c ≡ blockAt a i) (f : u ≡ sameKey (keyOf (recOf c)) k) where
-  is : keyed a i k ≡ u
-  is = ap (λ (c : List ℕ). sameKey (keyOf (recOf c)) k) (sym e) ∙ sym f
-
+module _ (k : Key) (a : List ℕ) (n i : ℕ) (b : List ℕ) (u : Bool) (f : u ≡ keyed a i k) where
   pub droppedIf-true : u ≡ true → i < n → recordsOf (n - 1) b ≡ cut i (recordsOf n a) → DroppedIf k a n i b (n - 1)
   droppedIf-true g h s = record {
     few = omega arith;
     most = omega arith;
-    store = s ∙ ap (λ (u : Bool). cond u (cut i (recordsOf n a)) (recordsOf n a)) (sym (is ∙ g));
+    store = s ∙ ap (λ (u : Bool). cond u (cut i (recordsOf n a)) (recordsOf n a)) (sym g ∙ f);
   }
 
   pub droppedIf-false : u ≡ false → DroppedIf k a n i a n
   droppedIf-false g = record {
     few = omega arith;
     most = omega arith;
-    store = ap (λ (u : Bool). cond u (cut i (recordsOf n a)) (recordsOf n a)) (sym (is ∙ g));
+    store = ap (λ (u : Bool). cond u (cut i (recordsOf n a)) (recordsOf n a)) (sym g ∙ f);
   }
 
 abbrev others : Key → Record → Bool

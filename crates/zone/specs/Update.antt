@@ -1,7 +1,7 @@
 -- What one step of the code makes of the memory and the count.
 use Prim.Native.Nat.{ℕ, _+_, _≤_, _<_}
 use mathlib.Core.Path.{_≡_}
-use mathlib.Core.Bool.{Bool, cond}
+use mathlib.Core.Bool.{Bool, true, cond}
 use mathlib.Core.List.{List}
 use mathlib.Core.Option.{Option, none, some}
 use lib.ListN.{set}
@@ -18,6 +18,10 @@ use Rattle.zone.specs.declared.editing.Applied.the-variants.{Count, Full
 -- Whether the record in a block has a key.
 abbrev pub keyed : List ℕ → ℕ → Key → Bool
 keyed area i k = sameKey (keyOf (recOf (blockAt area i))) k
+
+-- A quick test of two lists, which equal ones pass.
+pub record Passes (a b : List ℕ) (passed : Bool) : Type 0 where
+  pub equal : a ≡ b → passed ≡ true
 
 -- A TTL set in a block; and where the block's record has a key.
 pub record TtlSet (t : ℕ) (area : List ℕ) (i : ℕ) (after : List ℕ) : Type 0 where

@@ -14,10 +14,9 @@ use crate::records::RECORDS;
 use crate::records::RRCLASS;
 use crate::records::RRTYPE;
 use crate::records::TTL;
-use crate::records::block;
 use crate::records::clamped;
 use crate::records::find;
-use crate::records::has_key;
+use crate::records::has_key_at;
 use table::part;
 ghost use Prim.Native.Nat.{_+_, _-_, _≤_, _<_};
 ghost use mathlib.Core.Path.{_≡_};
@@ -51,7 +50,7 @@ fn set_ttl_if(
     requires { ⌜ i < maxRecords ⌝ }
     ensures { λ _. ⌜ TtlSetIf (keyFrom (now (name .entry)) rrtype rrclass (now (rdata .entry))) ttl (now (area .entry)) i (now (area .exit)) ⌝ }
 {
-    if has_key(block(area, i), name, rrtype, rrclass, rdata) {
+    if has_key_at(area, i, name, rrtype, rrclass, rdata) {
         set_ttl(area, i, ttl);
     }
 }
@@ -97,7 +96,7 @@ fn remove_if(
     requires { ⌜ (i < n) × (n ≤ maxRecords) ⌝ }
     ensures { λ r. ⌜ DroppedIf (keyFrom (now (name .entry)) rrtype rrclass (now (rdata .entry))) (now (area .entry)) n i (now (area .exit)) r ⌝ }
 {
-    if has_key(block(area, i), name, rrtype, rrclass, rdata) {
+    if has_key_at(area, i, name, rrtype, rrclass, rdata) {
         close_gap(area, n, i);
         return n - 1;
     }

@@ -4,6 +4,7 @@ ghost use mathlib.Core.Path.{_≡_};
 ghost use Rattle.zone.specs.Record.{keyOf, sameKey};
 ghost use Rattle.zone.specs.Batch.{maxRecords};
 ghost use Rattle.zone.specs.Table.{blockAt, recOf, keyFrom, recordsOf, indexOf, foundAt};
+ghost use Rattle.zone.specs.Update.{keyed, Passes};
 
 // The most records, and the most octets of an owner and of RDATA.
 pub const RECORDS: usize = 40;
@@ -90,6 +91,38 @@ pub fn has_key(block: &[u8], name: &[u8], rrtype: u16, rrclass: u16, rdata: &[u8
     false
 }
 
+// A quick look at octets: their number, the first and the last.
+fn may_be_same(a: &[u8], b: &[u8]) -> bool
+    ensures { λ r. ⌜ Passes (now (a .entry)) (now (b .entry)) r ⌝ }
+{
+    if a.len() != b.len() {
+        return false;
+    }
+    if a.len() == 0 {
+        return true;
+    }
+    let last = a.len() - 1;
+    (a[0] == b[0]) & (a[last] == b[last])
+}
+
+// Whether the record in a block of the area has a key. Loops ask this: mostly a quick look at the RDATA says no.
+pub(crate) fn has_key_at(
+    area: &Area,
+    i: usize,
+    name: &[u8],
+    rrtype: u16,
+    rrclass: u16,
+    rdata: &[u8],
+) -> bool
+    ensures { λ r. ⌜ r ≡ keyed (now (area .entry)) i (keyFrom (now (name .entry)) rrtype rrclass (now (rdata .entry))) ⌝ }
+{
+    let block = block(area, i);
+    if may_be_same(self::rdata(block), rdata) {
+        return has_key(block, name, rrtype, rrclass, rdata);
+    }
+    false
+}
+
 // Where a record stands in a store.
 pub enum Found {
     At(usize),
@@ -116,7 +149,7 @@ pub fn find(
     let n = clamped(count);
     let mut i = 0;
     while i < n {
-        if has_key(block(area, i), name, rrtype, rrclass, rdata) {
+        if has_key_at(area, i, name, rrtype, rrclass, rdata) {
             return Found::At(i);
         }
         i += 1;

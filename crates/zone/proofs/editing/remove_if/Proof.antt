@@ -10,7 +10,6 @@ remove-if-spec =
     (tie.spec
     (λ c κs. search needs)
     (λ c κs. search needs)
-    (λ c κs. search needs)
     (λ c. search needs)
-    (λ c. droppedIf-true _ _ _ _ _ _ _ (c .before .before .before .before .block .ensures) (c .before .before .before .has-key .ensures) (c .before .before .if1 .taken) (c .before .before .before .before .before .before .before .before .pre .0) (c .close-gap .ensures))
+    (λ c. search droppedIf-true)
     (λ c. search droppedIf-false))

@@ -10,6 +10,5 @@ set-ttl-if-spec =
     (tie.spec
     (λ c κs. search needs)
     (λ c κs. search needs)
-    (λ c κs. search needs)
     (λ c. search ttl-set-true)
     (λ c. search ttl-set-false))

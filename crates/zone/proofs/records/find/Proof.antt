@@ -22,7 +22,6 @@ find-spec =
     (λ c κs. search needs)
     (λ c. search searched-none)
     (λ c κs. search needs)
-    (λ c κs. search needs)
     (λ c. search searched-found)
     (λ c. omega arith)
     (λ c. omega arith)
