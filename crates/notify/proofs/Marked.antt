@@ -206,6 +206,16 @@ alike-cons m w ms r l = go (isMarked (firstMark ms)) (Bool·beq (covers m (keyOf
     go false true h = refl
     go false false h = refl
 
+-- A removal covers what it covers.
+alike-self : (l : List Record) (m : Removal) → alike l m m ≡ true
+unfolding alike
+alike-self [] m = refl
+alike-self (x ∷ l) m = ap₂ (λ (p q : Bool). p && q) (beq-refl (covers m (keyOf x))) (alike-self l m)
+
+pub alike-same : (l : List Record) (r : Record) (narrow wide : ℕ) → narrow ≡ wide → true ≡ alike l (removalAt narrow r) (removalAt wide r)
+alike-same l r narrow wide e =
+    sym (alike-self l (removalAt narrow r)) ∙ ap (λ (k : ℕ). alike l (removalAt narrow r) (removalAt k r)) e
+
 alike-end : (m w : Removal) (ms : List ℕ) → alike (marked ms []) m w ≡ true
 unfolding alike marked
 alike-end m w ms = refl

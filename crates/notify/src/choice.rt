@@ -34,6 +34,9 @@ fn alike(narrow: u8, wide: u8, a: &[u8], old: &zone::Area, count: usize, gone: &
     requires { ⌜ (0 < narrow) × (0 < wide) ⌝ }
     ensures { λ r. ⌜ r ≡ areAlike (marked (now (gone .entry)) (recordsOf count (now (old .entry)))) (removalAt narrow (recOf (now (a .entry)))) (removalAt wide (recOf (now (a .entry)))) ⌝ }
 {
+    if narrow == wide {
+        return true;
+    }
     let n = zone::clamped(count);
     let mut i = 0;
     while i < n {

@@ -4,7 +4,7 @@ use native.Mathlib.Omega.{arith}
 use borrow.Author.Needs.{needs}
 use Rattle.zone.specs.Table.{recOf, recordsOf}
 use Rattle.notify.specs.Marks.{removalAt}
-use Rattle.notify.proofs.Marked.{Agreed, agreed-none, agreed-all, agreed-not, agreed-turn}
+use Rattle.notify.proofs.Marked.{Agreed, alike-same, agreed-none, agreed-all, agreed-not, agreed-turn}
 use Rattle.notify.proofs.choice.alike.Statement.{statement}
 use Rattle.notify.proofs.choice.alike.Tie as tie
 
@@ -20,6 +20,7 @@ alike-spec =
     (tie.spec
     Inv-loop
     μ-loop
+    (λ c. search alike-same)
     (λ c κs. search needs)
     (λ c. search agreed-none)
     (λ c. omega arith)
