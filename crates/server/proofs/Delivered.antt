@@ -2,8 +2,8 @@
 use Prim.Native.Nat.{ℕ, zero, suc, _*_, _-_, _≤_, _<_}
 use native.Mathlib.Omega.{arith}
 use mathlib.Core.Bool.{Bool, true, false, cond, not, _||_}
-use mathlib.Core.List.{List, [], _∷_, _++_}
-use mathlib.Core.Option.{Option, none, some}
+use mathlib.Core.List.{List, _++_}
+use mathlib.Core.Option.{none, some}
 use mathlib.Core.Path.{_≡_, refl, sym, ap, subst, _∙_}
 use lib.ListN.{length, take, drop, set, replicate}
 use lib.Seq.{sets}
@@ -14,20 +14,18 @@ use Rattle.wire.specs.Part.{part}
 use Rattle.wire.proofs.Writes.{sets-lent-rest}
 use Rattle.session.specs.Table.{subscriptionsOf}
 use Rattle.session.specs.declared.clocks.Clocks.{Clocks}
-use Rattle.zone.specs.Record.{Record}
 use Rattle.zone.specs.Table.{recordsOf}
-use Rattle.service.specs.State.{State, Slot, free, live, slotAt, maxSessions}
-use Rattle.service.specs.State as Service
+use Rattle.service.specs.State.{Slot, live, slotAt, maxSessions}
 use Rattle.service.specs.Answer.{sent}
 use Rattle.service.specs.Answer.{refusalNumber, answerNumber}
 use Rattle.service.proofs.Quiet.{refusal-above}
-use Rattle.service.specs.Checks.{Brought, isFree, isAbsent, refusalOf, outputSize, leastOutput, maxMessage}
+use Rattle.service.specs.Checks.{isFree, isAbsent, refusalOf, outputSize, leastOutput, maxMessage}
 use Rattle.service.specs.Message as Message
 use Rattle.service.specs.Message.{messageEffect}
 use Rattle.service.specs.Call as Call
-use Rattle.service.specs.Call.{Call, receives, brought, passed, outcome, withSlots, effectAt, effectOutcome, messageOutcome}
+use Rattle.service.specs.Call.{Call, receives, passed, withSlots, effectAt, effectOutcome, messageOutcome}
 use Rattle.service.specs.declared.refusal.Refusal.{Refusal}
-use Rattle.receive.specs.Effect.{Does, effectIs, effectOn, bytesOf, bytesIn}
+use Rattle.receive.specs.Effect.{Does, effectIs, bytesOf, bytesIn}
 use Rattle.receive.specs.declared.effect.Received.{Received}
 use Rattle.receive.specs.declared.effect.Effect.{Effect}
 use Rattle.receive.specs.declared.effect.Effect.the-variants.{Abort, Nothing, Reply, Others, Places}
@@ -42,7 +40,7 @@ use Rattle.server.proofs.Outcomes.{gives-refused, gives-passed}
 use Rattle.server.specs.declared.state.Session.{Session}
 use Rattle.server.specs.declared.state.Server.{Server}
 use Rattle.server.specs.declared.state.Context.{Context}
-use Rattle.server.specs.Memory.{Memory, areaAt, putArea, withAreas, memoryOf, holding, sessionOf, slotOf, stateOf}
+use Rattle.server.specs.Memory.{Memory, areaAt, putArea, withAreas, memoryOf, holding, sessionOf, stateOf}
 use Rattle.server.specs.Numbers.{vacancy, sessionAt, contextWith, contextOf, putSession, atTime}
 use Rattle.server.specs.Answers.{Gives, Serves, answerOf, countsOf, lastAccepted, keptBy, heardIn, refusing}
 use Rattle.server.specs.Delivery.{
@@ -308,13 +306,10 @@ module _ (c : Context) (t i : ℕ) (zone first second m o a b d e : List ℕ) (s
       }
 
 -- A server has its own context.
+pub has-context : (s : Server) (i : ℕ) (c : Context) → c ≡ contextOf i s → Has c i s
+has-context s i c e = record { numbers = rw e; session = λ w. sym (ap (λ (x : Context). x .session) e) }
+
 pub served : (s : Server) (i : ℕ) (c : Context) → c ≡ contextOf i s → (t : ℕ) (before after : Memory) (m o o′ : List ℕ) (h : Heard)
     → Hears c before after t i m o o′ h → (r : Outcome) → r ≡ heardIn s t i h → (small : areBytes m ≡ true)
     → Serves s before (receives t i (record { list = m; small = small }) o) r after o′
-served s i c e t before after m o o′ h u r f small =
-    rw f
-    (u .serves small s
-    (record {
-      numbers = rw e;
-      session = λ w. sym (ap (λ (x : Context). x .session) e);
-    }))
+served s i c e t before after m o o′ h u r f small = rw f (u .serves small s (has-context s i c e))

@@ -1,6 +1,5 @@
 -- `server::delivery::message` meets its contract. Assumes nothing.
 use borrow.Author.Needs.{needs}
-use Rattle.server.specs.Memory.{memoryOf}
 use Rattle.server.proofs.Delivered.{served}
 use Rattle.server.proofs.delivery.message.Statement.{statement}
 use Rattle.server.proofs.delivery.message.Tie as tie
