@@ -2,45 +2,61 @@
 use Prim.Native.Nat.{ℕ, zero, suc, _*_, _-_, _≤_, _<_}
 use native.Mathlib.Omega.{arith}
 use mathlib.Core.Bool.{Bool, true, false, cond, not, _||_}
-use mathlib.Core.List.{List, [], _∷_, _++_}
-use mathlib.Core.Option.{Option, none, some}
+use mathlib.Core.List.{List, _++_}
+use mathlib.Core.Option.{none, some}
 use mathlib.Core.Path.{_≡_, refl, sym, ap, subst, _∙_}
 use lib.ListN.{length, take, drop, set, replicate}
 use lib.Seq.{sets}
-use lib.Dec.{eqb, leb}
+use lib.Dec.{eqb, leb, ltb}
 use lib.Pow.{areBytes}
-use borrow.Author.Tests.{ne-eqb, leb-false, ltb-false}
+use borrow.Author.Tests.{eqb-true, eqb-false, ne-eqb, lt-ltb, leb-false, ltb-false}
 use Rattle.wire.specs.Part.{part}
 use Rattle.wire.proofs.Writes.{sets-lent-rest}
 use Rattle.session.specs.Table.{subscriptionsOf}
 use Rattle.session.specs.declared.clocks.Clocks.{Clocks}
-use Rattle.zone.specs.Record.{Record}
 use Rattle.zone.specs.Table.{recordsOf}
-use Rattle.service.specs.State.{State, Slot, free, live, slotAt, maxSessions}
-use Rattle.service.specs.State as Service
+use Rattle.service.specs.State.{Slot, live, slotAt, maxSessions}
 use Rattle.service.specs.Answer.{sent}
-use Rattle.service.specs.Checks.{Brought, isFree, isAbsent, refusalOf, outputSize, leastOutput}
+use Rattle.service.specs.Answer.{refusalNumber, answerNumber}
+use Rattle.service.proofs.Quiet.{refusal-above}
+use Rattle.service.specs.Checks.{isFree, isAbsent, refusalOf, outputSize, leastOutput, maxMessage}
 use Rattle.service.specs.Message as Message
 use Rattle.service.specs.Message.{messageEffect}
 use Rattle.service.specs.Call as Call
-use Rattle.service.specs.Call.{Call, receives, brought, passed, outcome, withSlots, effectAt, effectOutcome, messageOutcome}
-use Rattle.service.proofs.Checks.{checks-passed}
+use Rattle.service.specs.Call.{Call, receives, passed, withSlots, effectAt, effectOutcome, messageOutcome}
 use Rattle.service.specs.declared.refusal.Refusal.{Refusal}
-use Rattle.receive.specs.Effect.{Does, effectIs, effectOn, bytesOf, bytesIn}
+use Rattle.receive.specs.Effect.{Does, effectIs, bytesOf, bytesIn}
 use Rattle.receive.specs.declared.effect.Received.{Received}
 use Rattle.receive.specs.declared.effect.Effect.{Effect}
 use Rattle.receive.specs.declared.effect.Effect.the-variants.{Abort, Nothing, Reply, Others, Places}
+use Rattle.server.specs.declared.answer.Answer.the-variants.{Refused}
 use Rattle.server.specs.declared.answer.Outcome.{Outcome}
+use Rattle.server.specs.declared.answer.Heard.{Heard}
 use Rattle.server.specs.declared.checks.Checked.{Checked}
-use Rattle.server.specs.declared.checks.Checked.the-variants.{Pass}
-use Rattle.server.specs.Checks.{refusedBy}
-use Rattle.server.proofs.Outcomes.{gives-passed}
+use Rattle.server.specs.declared.checks.Checked.the-variants.{Pass, Refuse}
+use Rattle.server.specs.Checks.{refusedBy, firstOf, testedOf, missing}
+use Rattle.server.proofs.Refusals.{tested-refusal}
+use Rattle.server.proofs.Outcomes.{gives-refused, gives-passed}
 use Rattle.server.specs.declared.state.Session.{Session}
 use Rattle.server.specs.declared.state.Server.{Server}
-use Rattle.server.specs.Memory.{Memory, areaAt, putArea, withAreas, memoryOf, holding, sessionOf, slotOf, stateOf}
-use Rattle.server.specs.Numbers.{vacancy, sessionAt, putSession, atTime}
-use Rattle.server.specs.Answers.{Gives, answerOf, countsOf}
-use Rattle.server.specs.Delivery.{countAt, answerTo, goneOr, concludedOf, DoesAt, Turns, Delivers}
+use Rattle.server.specs.declared.state.Context.{Context}
+use Rattle.server.specs.Memory.{Memory, areaAt, putArea, withAreas, memoryOf, holding, sessionOf, stateOf}
+use Rattle.server.specs.Numbers.{vacancy, sessionAt, contextWith, contextOf, putSession, atTime}
+use Rattle.server.specs.Answers.{Gives, Serves, answerOf, countsOf, lastAccepted, keptBy, heardIn, refusing}
+use Rattle.server.specs.Delivery.{
+  countAt,
+  answerTo,
+  goneOr,
+  concludedOf,
+  declinedOf,
+  effectIn,
+  DoesAt,
+  Numbered,
+  Turns,
+  Delivers,
+  Has,
+  Hears,
+}
 use Rattle.server.proofs.States.{slot-at, slot-live, slot-free, slot-vacancy, state-placed}
 
 -- ---- the part of the output that is lent comes back
@@ -76,9 +92,9 @@ module _ (s : Server) (t i : ℕ) (mem : Memory) (area o : List ℕ) (clocks : C
   concludes : (f : Effect) (w : List ℕ)
       → let r : Received = record { clocks = clocks; count = count; effect = f } in
       bytesIn f ≡ length (bytesOf (effectIs r area w))
-      → Gives s (concludedOf s t i r) (putArea i area mem) (sets o (i * outputSize) (bytesOf (effectIs r area w)))
+      → Gives s (heardIn s t i (concludedOf i r)) (putArea i area mem) (sets o (i * outputSize) (bytesOf (effectIs r area w)))
       (effectOutcome (stateOf s mem) t i o (effectIs r area w))
-  unfolding effectOutcome answerOf answerTo goneOr
+  unfolding effectOutcome answerOf answerTo goneOr keptBy answerNumber
   concludes Abort w h =
       record {
         next =
@@ -125,31 +141,46 @@ gives-same s m r r₁ o o₁ w w₁ p q e g = rw (p, q, e) g
 
 effect-live : (s : Server) (t i : ℕ) (zone store area m : List ℕ) (mem : Memory) → sessionAt i s .live ≡ true → mem .zone ≡ zone
     → holding s mem ≡ store → areaAt i mem ≡ area
-    → effectAt (stateOf s mem) t m (slotAt (stateOf s mem) i)
-    ≡ messageEffect (take (s .zone) zone) (recordsOf (s .records) store) t m (sessionOf (sessionAt i s) area)
+    → effectAt (stateOf s mem) t m (slotAt (stateOf s mem) i) ≡ effectIn (contextOf i s) t zone store m area
 unfolding stateOf
 effect-live s t i zone store area m mem h p q e =
     ap (effectAt (stateOf s mem) t m) (slot-at s mem i ∙ slot-live (sessionAt i s) (areaAt i mem) h)
-    ∙ ap (λ (z : List ℕ). messageEffect (take (s .zone) z) (recordsOf (s .records) (holding s mem)) t m (sessionOf (sessionAt i s) (areaAt i mem))) p
-    ∙ ap (λ (z : List ℕ). messageEffect (take (s .zone) zone) (recordsOf (s .records) z) t m (sessionOf (sessionAt i s) (areaAt i mem))) q
-    ∙ ap (λ (z : List ℕ). messageEffect (take (s .zone) zone) (recordsOf (s .records) store) t m (sessionOf (sessionAt i s) z)) e
+    ∙ ap (λ (z : List ℕ). effectIn (contextOf i s) t z (holding s mem) m (areaAt i mem)) p
+    ∙ ap (λ (z : List ℕ). effectIn (contextOf i s) t zone z m (areaAt i mem)) q
+    ∙ ap (effectIn (contextOf i s) t zone store m) e
 
-pub turned : (s : Server) (t i : ℕ) (zone store area area′ m o o′ : List ℕ) (x : Received) → sessionAt i s .live ≡ true
-    → DoesAt (i * outputSize) (messageEffect (take (s .zone) zone) (recordsOf (s .records) store) t m (sessionOf (sessionAt i s) area)) x area′ o o′
-    → (r : Outcome) → r ≡ concludedOf s t i x → Turns s t i zone store area area′ m o o′ r
+never-refused : (i : ℕ) (f : Effect) (x : Refusal) → answerTo i f ≡ Refused x → ⊥
+unfolding answerTo
+never-refused i Abort x e = let z : _≡_ {A = ℕ} 0 1 = cc in omega arith
+never-refused i Nothing x e = let z : _≡_ {A = ℕ} 0 1 = cc in omega arith
+never-refused i (Reply n) x e = let z : _≡_ {A = ℕ} 0 1 = cc in omega arith
+never-refused i Others x e = let z : _≡_ {A = ℕ} 0 1 = cc in omega arith
+never-refused i (Places p) x e = let z : _≡_ {A = ℕ} 0 1 = cc in omega arith
+
+turned-in : (s : Server) (t i : ℕ) (zone store area area′ m o o′ : List ℕ) (x : Received) → sessionAt i s .live ≡ true
+    → DoesAt (i * outputSize) (effectIn (contextOf i s) t zone store m area) x area′ o o′ → (h : Heard) → h ≡ concludedOf i x
+    → (mem : Memory) → mem .zone ≡ zone → holding s mem ≡ store → areaAt i mem ≡ area
+    → Gives s (heardIn s t i h) (putArea i area′ mem) o′ (messageOutcome (stateOf s mem) t i m o)
 unfolding messageOutcome
-turned s t i zone store area area′ m o o′ x h d r f =
-    let e : Message.Effect = messageEffect (take (s .zone) zone) (recordsOf (s .records) store) t m (sessionOf (sessionAt i s) area) in
-    let w : List ℕ = bytesOf e in
+turned-in s t i zone store area area′ m o o′ x l d h f mem p q a =
+    let w : List ℕ = bytesOf (effectIn (contextOf i s) t zone store m area) in
     let k : Message.Effect = effectIs x area′ w in
+    gives-same s (putArea i area′ mem) (heardIn s t i h) (heardIn s t i (concludedOf i x)) o′ (sets o (i * outputSize) (bytesOf k))
+    (messageOutcome (stateOf s mem) t i m o) (effectOutcome (stateOf s mem) t i o k) (ap (heardIn s t i) f)
+    (d .written ∙ ap (λ (y : Message.Effect). sets o (i * outputSize) (bytesOf y)) (d .means))
+    (ap (effectOutcome (stateOf s mem) t i o) (effect-live s t i zone store area m mem l p q a ∙ d .means))
+    (concludes s t i mem area′ o (x .clocks) (x .count) (x .effect) w
+    (d .counted ∙ ap (λ (y : Message.Effect). length (bytesOf y)) (d .means)))
+
+pub turned : (c : Context) (t i : ℕ) (zone store area area′ m o o′ : List ℕ) (x : Received) → c .session .live ≡ true
+    → DoesAt (i * outputSize) (effectIn c t zone store m area) x area′ o o′ → (h : Heard) → h ≡ concludedOf i x
+    → Turns c t i zone store area area′ m o o′ h
+turned c t i zone store area area′ m o o′ x l d h f =
     record {
-      gives = λ mem p q a.
-          gives-same s (putArea i area′ mem) r (concludedOf s t i x) o′ (sets o (i * outputSize) (bytesOf k))
-          (messageOutcome (stateOf s mem) t i m o) (effectOutcome (stateOf s mem) t i o k) f
-          (d .written ∙ ap (λ (y : Message.Effect). sets o (i * outputSize) (bytesOf y)) (d .means))
-          (ap (effectOutcome (stateOf s mem) t i o) (effect-live s t i zone store area m mem h p q a ∙ d .means))
-          (concludes s t i mem area′ o (x .clocks) (x .count) (x .effect) w
-          (d .counted ∙ ap (λ (y : Message.Effect). length (bytesOf y)) (d .means)));
+      gives = λ s mem e.
+          turned-in s t i zone store area area′ m o o′ x (ap (λ (k : Context). k .session .live) e ∙ l)
+          (subst (λ (k : Context). DoesAt (i * outputSize) (effectIn k t zone store m area) x area′ o o′) (sym e) d) h f mem;
+      accepted = λ y p. never-refused i (x .effect) y (sym (ap (λ (k : Heard). k .answer) f) ∙ p);
     }
 
 -- ---- a message that passed the checks has a session and room
@@ -162,65 +193,123 @@ not-not : (b : Bool) → not b ≡ false → b ≡ true
 not-not true e = refl
 not-not false e = absurd (let z : _≡_ {A = ℕ} 0 1 = cc in omega arith)
 
-pub record Ready (s : Server) (i : ℕ) (o : List ℕ) : Type 0 where
+first-none : (short early absent long : Bool) → firstOf short early absent long ≡ none → (short ≡ false) × (absent ≡ false)
+unfolding firstOf
+first-none true b c d e = absurd (let z : _≡_ {A = ℕ} 0 1 = cc in omega arith)
+first-none false true c d e = absurd (let z : _≡_ {A = ℕ} 0 1 = cc in omega arith)
+first-none false false true d e = absurd (let z : _≡_ {A = ℕ} 0 1 = cc in omega arith)
+first-none false false false d e = (refl, refl)
+
+pub record Ready (c : Context) (i : ℕ) (o : List ℕ) : Type 0 where
   pub known : i < maxSessions
   pub roomy : leastOutput ≤ length o
-  pub alive : sessionAt i s .live ≡ true
+  pub alive : c .session .live ≡ true
 
-pub ready : (s : Server) (mem : Memory) (t i n : ℕ) (o : List ℕ)
-    → refusalOf (stateOf s mem) (record { output = some (length o); time = t; session = some i; message = some n }) ≡ none
-    → Ready s i o
-ready s mem t i n o e =
-    let p = checks-passed (stateOf s mem) (record { output = some (length o); time = t; session = some i; message = some n }) e in
-    let q = or-false (leb maxSessions i) (isFree (slotAt (stateOf s mem) i)) (p .present) in
-    record {
-      known = leb-false maxSessions i (q .0);
-      roomy = ltb-false (length o) leastOutput (p .roomy);
-      alive = not-not (sessionAt i s .live) (sym (ap isFree (slot-at s mem i) ∙ slot-free (sessionAt i s) (areaAt i mem)) ∙ q .1);
-    }
+-- What the checks say of a message, from its context.
+module _ (c : Context) (t i n : ℕ) (o : List ℕ) (absent : Bool) (l : absent ≡ missing i (c .session)) (k : Checked)
+    (h : refusedBy k ≡ testedOf (c .latest) absent (record { output = some (length o); time = t; session = some i; message = some n })) where
+  -- The session is absent in every server that has the context, or in none.
+  absent-in : (s : Server) → Has c i s → (mem : Memory) → missing i (c .session) ≡ isAbsent (stateOf s mem) (some i)
+  absent-in s e mem = go (leb maxSessions i) refl
+    where
+      go : (b : Bool) → leb maxSessions i ≡ b → missing i (c .session) ≡ isAbsent (stateOf s mem) (some i)
+      go true p = rw p
+      go false p =
+          rw p
+          (ap (λ (x : Session). not (x .live)) (sym (e .session (leb-false maxSessions i p)))
+          ∙ sym (ap isFree (slot-at s mem i) ∙ slot-free (sessionAt i s) (areaAt i mem)))
 
-nothing : Memory
-nothing = memoryOf [] [] [] [] [] [] []
+  pub checked-in : (s : Server) → Has c i s → (mem : Memory)
+      → refusedBy k ≡ refusalOf (stateOf s mem) (record { output = some (length o); time = t; session = some i; message = some n })
+  checked-in s e mem =
+      h
+      ∙ tested-refusal s mem (record { output = some (length o); time = t; session = some i; message = some n }) (c .latest)
+      (sym (ap (λ (x : Context). x .latest) (e .numbers))) absent (l ∙ absent-in s e mem)
 
-module _ (s : Server) (t i n : ℕ) (o : List ℕ) (k : Checked) where
-  pub ready-checked : ((mem : Memory) → refusedBy k ≡ refusalOf (stateOf s mem) (record { output = some (length o); time = t; session = some i; message = some n }))
-      → k ≡ Pass → Ready s i o
-  ready-checked h e = ready s nothing t i n o (sym (h nothing) ∙ ap refusedBy e)
+  -- A message that passed has a session and room.
+  pub ready : k ≡ Pass → Ready c i o
+  ready e =
+      let p = first-none (ltb (length o) leastOutput) (ltb t (c .latest)) absent (ltb maxMessage n) (sym h ∙ ap refusedBy e) in
+      let q = or-false (leb maxSessions i) (not (c .session .live)) (sym l ∙ p .1) in
+      record {
+        known = leb-false maxSessions i (q .0);
+        roomy = ltb-false (length o) leastOutput (p .0);
+        alive = not-not (c .session .live) (q .1);
+      }
 
 -- ---- the pieces of the code
 
-pub heard : (s : Server) (t i at : ℕ) (zone store area area′ m o p name : List ℕ) (x : Session) (r : Received) → x ≡ sessionAt i s
-    → name ≡ part zone 0 (s .zone) → at ≡ i * outputSize
-    → Does (messageEffect name (recordsOf (s .records) store) t m (sessionOf x area)) r area′ (take (length o - at) (drop at o)) p
-    → DoesAt (i * outputSize) (messageEffect (take (s .zone) zone) (recordsOf (s .records) store) t m (sessionOf (sessionAt i s) area)) r area′ o
-    (take at o ++ (p ++ drop (length o - at) (drop at o)))
-heard s t i at zone store area area′ m o p name x r e f q d =
-    let k : Message.Effect = messageEffect (take (s .zone) zone) (recordsOf (s .records) store) t m (sessionOf (sessionAt i s) area) in
-    let g : Does (messageEffect (part zone 0 (s .zone)) (recordsOf (s .records) store) t m (sessionOf (sessionAt i s) area)) r area′ (take (length o - at) (drop at o)) p
-    = rw (← e, ← f) d in
-    subst (λ (n : ℕ). DoesAt n k r area′ o (take at o ++ (p ++ drop (length o - at) (drop at o)))) q (does-at at k r area′ o p g)
+module _ (c : Context) (t i at : ℕ) (zone first second area area′ m o p name : List ℕ) (r : Received) (which : Bool) (w : c .second ≡ which) where
+  pub attended : name ≡ part zone 0 (c .zone) → at ≡ i * outputSize
+      → Does (messageEffect name (recordsOf (c .records) (cond which second first)) t m (sessionOf (c .session) area)) r area′
+      (take (length o - at) (drop at o)) p
+      → DoesAt (i * outputSize) (effectIn c t zone (cond (c .second) second first) m area) r area′ o
+      (take at o ++ (p ++ drop (length o - at) (drop at o)))
+  attended f q d =
+      let k : Message.Effect = effectIn c t zone (cond (c .second) second first) m area in
+      let g : Does k r area′ (take (length o - at) (drop at o)) p = rw (w, ← f) d in
+      subst (λ (n : ℕ). DoesAt n k r area′ o (take at o ++ (p ++ drop (length o - at) (drop at o)))) q (does-at at k r area′ o p g)
 
-pub alive-at : (s : Server) (i j : ℕ) → i ≡ j → sessionAt i s .live ≡ true → sessionAt j s .live ≡ true
-alive-at s i j e h = ap (λ (k : ℕ). sessionAt k s .live) (sym e) ∙ h
+pub numbered : (i : ℕ) → Numbered (eqb i 0) (eqb i 1) (eqb i 2) i
+numbered i = record { zeroth = refl; first = refl; second = refl }
 
-pub delivered : (s : Server) (t i j : ℕ) (zone store area area′ m o o′ a b c d a′ b′ c′ d′ : List ℕ) (r : Outcome) → i ≡ j
-    → Turns s t j zone store area area′ m o o′ r → ((mem : Memory) → areaAt j (withAreas a b c d mem) ≡ area)
-    → ((mem : Memory) → putArea j area′ (withAreas a b c d mem) ≡ withAreas a′ b′ c′ d′ mem)
-    → Delivers s t i zone store m o o′ a b c d a′ b′ c′ d′ r
-delivered s t i j zone store area area′ m o o′ a b c d a′ b′ c′ d′ r e u p q =
+pub number-is : {b : Bool} (i n : ℕ) → b ≡ eqb i n → b ≡ true → i ≡ n
+number-is i n e f = eqb-true i n (sym e ∙ f)
+
+pub number-not : {b : Bool} (i n : ℕ) → b ≡ eqb i n → b ≡ false → i ≡ n → ⊥
+number-not i n e f = eqb-false i n (sym e ∙ f)
+
+pub delivered : (c : Context) (t i j : ℕ) (zone store area area′ m o o′ a b d e a′ b′ d′ e′ : List ℕ) (h : Heard) → i ≡ j
+    → Turns c t i zone store area area′ m o o′ h → ((mem : Memory) → areaAt j (withAreas a b d e mem) ≡ area)
+    → ((mem : Memory) → putArea j area′ (withAreas a b d e mem) ≡ withAreas a′ b′ d′ e′ mem)
+    → Delivers c t i zone store m o o′ a b d e a′ b′ d′ e′ h
+delivered c t i j zone store area area′ m o o′ a b d e a′ b′ d′ e′ h n u p q =
     record {
-      gives = λ mem x y. rw (e, ← q mem) (u .gives (withAreas a b c d mem) x y (p mem));
+      gives = λ s mem x y z.
+          rw (← q mem, ← n) (u .gives s (withAreas a b d e mem) x y z (ap (λ (k : ℕ). areaAt k (withAreas a b d e mem)) n ∙ p mem));
+      accepted = u .accepted;
     }
 
-pub delivered-message : (s : Server) (t i : ℕ) (zone first second m o o′ a b c d a′ b′ c′ d′ : List ℕ) (small : areBytes m ≡ true)
-    → (k : Checked)
-    → ((mem : Memory) → refusedBy k ≡ refusalOf (stateOf s mem) (brought (receives t i (record { list = m; small = small }) o)))
-    → k ≡ Pass → (which : Bool) → s .second ≡ which → (r : Outcome)
-    → Delivers s t i zone (cond which second first) m o o′ a b c d a′ b′ c′ d′ r
-    → Gives s r (memoryOf zone first second a′ b′ c′ d′) o′
-    (outcome (stateOf s (memoryOf zone first second a b c d)) (receives t i (record { list = m; small = small }) o))
-unfolding passed
-delivered-message s t i zone first second m o o′ a b c d a′ b′ c′ d′ small k h e which w r u =
-    gives-passed s (receives t i (record { list = m; small = small }) o) k h e r (memoryOf zone first second a b c d)
-    (memoryOf zone first second a′ b′ c′ d′) o′
-    (u .gives (memoryOf zone first second a b c d) refl (ap (λ (x : Bool). cond x second first) w))
+-- ---- the call
+
+refusing-in : (s : Server) (t i : ℕ) (x : Session) (y : Refusal) → heardIn s t i (declinedOf x y) ≡ refusing s y
+unfolding keptBy answerNumber answerOf
+refusing-in s t i x y = rw (lt-ltb lastAccepted (refusalNumber y) (refusal-above y))
+
+module _ (c : Context) (t i : ℕ) (zone first second m o a b d e : List ℕ) (small : areBytes m ≡ true) (absent : Bool)
+    (l : absent ≡ missing i (c .session)) (k : Checked)
+    (h : refusedBy k ≡ testedOf (c .latest) absent (record { output = some (length o); time = t; session = some i; message = some (length m) })) where
+  pub heard-refused : (x : Refusal) → k ≡ Refuse x → (r : Heard) → r ≡ declinedOf (c .session) x
+      → Hears c (memoryOf zone first second a b d e) (memoryOf zone first second a b d e) t i m o o r
+  heard-refused x f r g =
+      record {
+        small = small;
+        serves = λ y s w.
+            gives-refused s (receives t i (record { list = m; small = y }) o) k (checked-in c t i (length m) o absent l k h s w) x f
+            (heardIn s t i r) (ap (heardIn s t i) g ∙ refusing-in s t i (c .session) x) (memoryOf zone first second a b d e);
+        unchanged = λ y q. ap (λ (z : Heard). z .session) g;
+      }
+
+  pub heard-passed : k ≡ Pass → (r : Heard) (o′ a′ b′ d′ e′ : List ℕ)
+      → Delivers c t i zone (cond (c .second) second first) m o o′ a b d e a′ b′ d′ e′ r
+      → Hears c (memoryOf zone first second a b d e) (memoryOf zone first second a′ b′ d′ e′) t i m o o′ r
+  unfolding passed
+  heard-passed f r o′ a′ b′ d′ e′ u =
+      record {
+        small = small;
+        serves = λ y s w.
+            let v : contextOf i s ≡ c = ap (λ (x : Session). contextWith x s) (w .session (ready c t i (length m) o absent l k h f .known)) ∙ w .numbers in
+            gives-passed s (receives t i (record { list = m; small = y }) o) k (checked-in c t i (length m) o absent l k h s w) f (heardIn s t i r)
+            (memoryOf zone first second a b d e) (memoryOf zone first second a′ b′ d′ e′) o′
+            (u .gives s (memoryOf zone first second a b d e) v refl (ap (λ (x : Context). cond (x .second) second first) v));
+        unchanged = λ x p. absurd (u .accepted x p);
+      }
+
+-- A server has its own context.
+pub has-context : (s : Server) (i : ℕ) (c : Context) → c ≡ contextOf i s → Has c i s
+has-context s i c e = record { numbers = rw e; session = λ w. sym (ap (λ (x : Context). x .session) e) }
+
+pub served : (s : Server) (i : ℕ) (c : Context) → c ≡ contextOf i s → (t : ℕ) (before after : Memory) (m o o′ : List ℕ) (h : Heard)
+    → Hears c before after t i m o o′ h → (r : Outcome) → r ≡ heardIn s t i h → (small : areBytes m ≡ true)
+    → Serves s before (receives t i (record { list = m; small = small }) o) r after o′
+served s i c e t before after m o o′ h u r f small = rw f (u .serves small s (has-context s i c e))

@@ -1,18 +1,18 @@
 -- The shared checks: each answers in its turn.
-use Prim.Native.Nat.{ℕ}
-use mathlib.Core.Bool.{Bool, false}
-use mathlib.Core.Option.{Option}
-use mathlib.Core.Path.{_≡_, sym, ap, _∙_}
+use Prim.Native.Nat.{ℕ, _≤_, _<_}
+use mathlib.Core.Bool.{Bool, true, false, not}
+use mathlib.Core.Path.{_≡_, sym, ap, ap₂, _∙_}
 use lib.Dec.{ltb}
-use Rattle.service.specs.State.{slotAt}
+use borrow.Author.Tests.{le-leb, lt-leb}
+use Rattle.service.specs.State.{slotAt, maxSessions}
+use Rattle.service.specs.Checks as Service
 use Rattle.service.specs.Checks.{isShort, isFree, isAbsent, isLong, refusalOf, leastOutput, maxMessage}
-use Rattle.service.specs.declared.refusal.Refusal.{Refusal}
+use Rattle.server.specs.declared.state.Session.{Session}
 use Rattle.server.specs.declared.state.Server.{Server}
 use Rattle.server.specs.declared.checks.Given.{Given}
 use Rattle.server.specs.declared.checks.Given.the-variants.{Absent, Is}
-use Rattle.server.specs.declared.checks.Brought.{Brought}
 use Rattle.server.specs.Memory.{Memory, stateOf}
-use Rattle.server.specs.Checks.{givenOf, broughtOf, firstOf}
+use Rattle.server.specs.Checks.{givenOf, firstOf, testedOf, missing}
 use Rattle.server.proofs.Vacancies.{free-past}
 
 -- ---- a number that a call has or has not
@@ -31,16 +31,16 @@ pub absent-at : (s : Server) (g : Given) (i : ℕ) → g ≡ Is i → (b : Bool)
 absent-at s g i e b h m =
     h m ∙ sym (ap (λ (k : Given). isAbsent (stateOf s m) (givenOf k)) e ∙ free-past s m i)
 
+-- By the session's own numbers.
+pub missing-past : (i : ℕ) (x : Session) → maxSessions ≤ i → true ≡ missing i x
+missing-past i x h = rw (le-leb maxSessions i h)
+
+pub missing-open : (i : ℕ) (x : Session) → i < maxSessions → not (x .live) ≡ missing i x
+missing-open i x h = rw (lt-leb maxSessions i h)
+
 -- ---- the four in their order
 
-pub checked : (s : Server) (b : Brought) (short : Bool) → short ≡ isShort (givenOf (b .output))
-    → (absent : Bool) → ((m : Memory) → absent ≡ isAbsent (stateOf s m) (givenOf (b .session)))
-    → (long : Bool) → long ≡ isLong (givenOf (b .message)) → (k : Option Refusal)
-    → k ≡ firstOf short (ltb (b .time) (s .latest)) absent long → (m : Memory) → k ≡ refusalOf (stateOf s m) (broughtOf b)
+pub tested-refusal : (s : Server) (m : Memory) (b : Service.Brought) (latest : ℕ) → latest ≡ s .latest → (absent : Bool)
+    → absent ≡ isAbsent (stateOf s m) (b .session) → testedOf latest absent b ≡ refusalOf (stateOf s m) b
 unfolding refusalOf stateOf firstOf
-checked s b short p absent q long r k e m =
-    let early = ltb (b .time) (s .latest) in
-    e
-    ∙ ap (λ (x : Bool). firstOf x early absent long) p
-    ∙ ap (λ (x : Bool). firstOf (isShort (givenOf (b .output))) early x long) (q m)
-    ∙ ap (firstOf (isShort (givenOf (b .output))) early (isAbsent (stateOf s m) (givenOf (b .session)))) r
+tested-refusal s m b latest p absent q = ap₂ (λ (l : ℕ) (a : Bool). testedOf l a b) p q

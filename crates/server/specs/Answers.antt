@@ -1,13 +1,15 @@
 -- The server's answers as the service's, which have 01's numbers; and what a call has to give.
 use Prim.Native.Nat.{ℕ}
-use mathlib.Core.Bool.{Bool}
+use mathlib.Core.Bool.{Bool, cond}
 use mathlib.Core.List.{List, [], _∷_}
 use mathlib.Core.Path.{_≡_}
-use Rattle.service.specs.Answer.{done, opened, ended, sent, notOurs, aborted, reconfirm, refused}
+use lib.Dec.{ltb}
+use Rattle.service.specs.Answer.{done, opened, ended, sent, notOurs, aborted, reconfirm, refused, answerNumber}
 use Rattle.service.specs.Answer as Service
 use Rattle.service.specs.Call as Call
 use Rattle.service.specs.declared.refusal.Refusal.{Refusal}
 use Rattle.server.specs.Memory.{Memory, stateOf}
+use Rattle.server.specs.Numbers.{putSession, atTime}
 use Rattle.server.specs.declared.answer.Answer.{Answer}
 use Rattle.server.specs.declared.answer.Answer.the-variants.{
   Done,
@@ -22,6 +24,7 @@ use Rattle.server.specs.declared.answer.Answer.the-variants.{
 use Rattle.server.specs.declared.answer.Flags.{Flags}
 use Rattle.server.specs.declared.answer.Counts.{Counts}
 use Rattle.server.specs.declared.answer.Outcome.{Outcome}
+use Rattle.server.specs.declared.answer.Heard.{Heard}
 use Rattle.server.specs.declared.state.Server.{Server}
 
 abbrev pub flagsOf : Flags → List Bool
@@ -43,6 +46,19 @@ answerOf (Refused r) = refused r
 -- A refusal.
 abbrev pub refusing : Server → Refusal → Outcome
 refusing s x = record { server = s; answer = Refused x }
+
+-- 01: "Answers 10 to 20 change nothing", and "1 to 5 take the given time as latest".
+abbrev pub lastAccepted : ℕ
+lastAccepted = 5
+
+-- The numbers after an answer.
+unfoldable pub keptBy : Answer → Server → Server → Server
+keptBy a old new = cond (ltb lastAccepted (answerNumber (answerOf a))) old new
+
+-- What a message on session i at a time, heard so, makes of the numbers s.
+abbrev pub heardIn : Server → ℕ → ℕ → Heard → Outcome
+heardIn s t i h =
+    record { server = keptBy (h .answer) s (atTime t (putSession i (h .session) s)); answer = h .answer }
 
 -- A call on the numbers s left the numbers and the answer of r, the memory m and the output o: they are the next state, the
 -- answer and the output of an outcome w. A refusal hands back the very numbers that came in.

@@ -4,6 +4,7 @@ use mathlib.Core.Bool.{Bool, true, false, cond}
 use Rattle.session.specs.Clocks.{started}
 use Rattle.server.specs.declared.state.Session.{Session}
 use Rattle.server.specs.declared.state.Server.{Server}
+use Rattle.server.specs.declared.state.Context.{Context}
 use Rattle.server.specs.declared.answer.Flags.{Flags}
 
 -- The numbers of a session with no subscription; those of a place that no session has, and of a session that is opened.
@@ -23,6 +24,14 @@ sessionAt (suc zero) s = s .s1
 sessionAt (suc (suc zero)) s = s .s2
 sessionAt (suc (suc (suc zero))) s = s .s3
 sessionAt (suc (suc (suc (suc i)))) s = vacancy
+
+-- What a message needs of the numbers, with a session's numbers; and with those of session i.
+abbrev pub contextWith : Session → Server → Context
+contextWith x s =
+    record { latest = s .latest; zone = s .zone; records = s .records; second = s .second; session = x }
+
+abbrev pub contextOf : ℕ → Server → Context
+contextOf i s = contextWith (sessionAt i s) s
 
 abbrev pub sessions : Session → Session → Session → Session → Server → Server
 sessions a b c d s =

@@ -1,5 +1,6 @@
 // What a call gives: the server's numbers as they are then, and the answer.
 use crate::state::Server;
+use crate::state::Session;
 use dso::RecordPlaces;
 use service::Refusal;
 use service::SessionNumber;
@@ -43,6 +44,12 @@ pub enum Answer {
 
 pub struct Outcome {
     pub server: Server,
+    pub answer: Answer,
+}
+
+// What a message gives: the numbers of its session as they are then, and the answer.
+pub struct Heard {
+    pub session: Session,
     pub answer: Answer,
 }
 

@@ -1,12 +1,14 @@
 // The checks that calls share, in 01's order: 12, 11, 10, 18.
 use crate::output::LEAST_OUTPUT;
 use crate::places::is_free;
+use crate::state::SESSIONS;
 use crate::state::Server;
+use crate::state::Session;
 use service::Refusal;
 ghost use mathlib.Core.Path.{_≡_};
 ghost use Rattle.service.specs.Checks.{isShort, isLong, isAbsent, refusalOf};
 ghost use Rattle.server.specs.Memory.{Memory, stateOf};
-ghost use Rattle.server.specs.Checks.{givenOf, broughtOf, refusedBy, firstOf};
+ghost use Rattle.server.specs.Checks.{givenOf, broughtOf, refusedBy, firstOf, testedOf, missing};
 
 // 01: "Message: 65,535 bytes."
 const MAX_MESSAGE: u64 = 65535;
@@ -76,17 +78,29 @@ fn first_of(short: bool, early: bool, absent: bool, long: bool) -> Checked
     Checked::Pass
 }
 
+// The four, where the latest time and whether the session is absent are known.
+pub fn tested(latest: u64, absent: bool, b: Brought) -> Checked
+    ensures { λ r. ⌜ refusedBy r ≡ testedOf latest absent (broughtOf b) ⌝ }
+{
+    let output = b.output;
+    let message = b.message;
+    let early = b.time < latest;
+    first_of(is_short(output), early, absent, is_long(message))
+}
+
 pub fn check(server: Server, b: Brought) -> Checked
     ensures { λ r. ⌜ ((m : Memory) → refusedBy r ≡ refusalOf (stateOf server m) (broughtOf b)) ⌝ }
 {
-    let output = b.output;
     let session = b.session;
-    let message = b.message;
-    let early = b.time < server.latest;
-    first_of(
-        is_short(output),
-        early,
-        is_absent(server, session),
-        is_long(message),
-    )
+    tested(server.latest, is_absent(server, session), b)
+}
+
+// Whether a session of a number is absent, by its own numbers.
+pub fn is_missing(i: u64, x: Session) -> bool
+    ensures { λ r. ⌜ r ≡ missing i x ⌝ }
+{
+    if SESSIONS <= i {
+        return true;
+    }
+    !x.live
 }

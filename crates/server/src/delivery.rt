@@ -1,38 +1,40 @@
 // Message: one whole DNS message of a session, without its length prefix, and how its session receives it.
 use crate::answer::Answer;
 use crate::answer::Counts;
+use crate::answer::Heard;
 use crate::answer::Outcome;
-use crate::answer::refused;
 use crate::checks::Brought;
 use crate::checks::Checked;
 use crate::checks::Given;
-use crate::checks::check;
+use crate::checks::is_missing;
+use crate::checks::tested;
+use crate::number::LAST_ACCEPTED;
+use crate::number::answer_number;
 use crate::output::output_at;
 use crate::starting::Name;
+use crate::state::Context;
 use crate::state::Server;
 use crate::state::Session;
+use crate::state::context_at;
 use crate::state::replaced;
-use crate::state::session_at;
 use crate::state::vacant;
 use receive::Effect;
 use receive::Received;
 use receive::receive;
+use service::Refusal;
 use service::SessionNumber;
 use table::part;
 ghost use Prim.Native.Nat.{_*_, _≤_, _<_};
 ghost use mathlib.Core.Path.{_≡_};
 ghost use mathlib.Core.Bool.{true, cond};
-ghost use lib.ListN.{length, take};
-ghost use Rattle.zone.specs.Table.{recordsOf};
+ghost use lib.ListN.{length};
+ghost use lib.Pow.{areBytes};
 ghost use Rattle.service.specs.State.{maxSessions};
 ghost use Rattle.service.specs.Checks.{outputSize, leastOutput};
-ghost use Rattle.service.specs.Message.{messageEffect};
-ghost use Rattle.server.specs.Memory.{sessionOf, memoryOf};
-ghost use Rattle.server.specs.Numbers.{sessionAt};
-ghost use Rattle.server.specs.Delivery.{DoesAt, Turns, Delivers, countAt, answerTo, sessionAfter, concludedOf};
-ghost use lib.Pow.{areBytes};
 ghost use Rattle.service.specs.Call.{receives};
-ghost use Rattle.server.specs.Answers.{Serves};
+ghost use Rattle.server.specs.Memory.{memoryOf};
+ghost use Rattle.server.specs.Answers.{Serves, heardIn};
+ghost use Rattle.server.specs.Delivery.{DoesAt, Numbered, Turns, Delivers, Hears, countAt, answerTo, sessionAfter, concludedOf, declinedOf, effectIn};
 
 fn only(here: bool, n: usize) -> usize
     ensures { λ r. ⌜ r ≡ cond here n 0 ⌝ }
@@ -84,21 +86,22 @@ fn session_after(r: Received) -> Session
     }
 }
 
-fn concluded(server: Server, t: u64, i: u64, r: Received) -> Outcome
-    ensures { λ x. ⌜ x ≡ concludedOf server t i r ⌝ }
+fn concluded(i: u64, r: Received) -> Heard
+    ensures { λ h. ⌜ h ≡ concludedOf i r ⌝ }
 {
     let effect = r.effect;
-    Outcome {
-        server: replaced(server, t, i, session_after(r)),
+    Heard {
+        session: session_after(r),
         answer: answer_to(i, effect),
     }
 }
 
-// The zone's name is the front of its octets; the session's part of the output is lent on.
-fn hear(
-    server: Server,
+// The zone's name is the front of its octets; one of two areas holds the store; the session's part of the output is lent on.
+fn attend(
+    c: Context,
     zone: &Name,
-    store: &zone::Area,
+    first: &zone::Area,
+    second: &zone::Area,
     subs: &mut session::Area,
     t: u64,
     i: u64,
@@ -106,48 +109,47 @@ fn hear(
     out: &mut [u8],
 ) -> Received
     requires { ⌜ (i < maxSessions) × (leastOutput ≤ length (now out)) ⌝ }
-    ensures { λ r. ⌜ DoesAt (i * outputSize) (messageEffect (take (server .zone) (now (zone .entry))) (recordsOf (server .records) (now (store .entry))) t (now (m .entry)) (sessionOf (sessionAt i server) (now (subs .entry)))) r (now (subs .exit)) (now (out .entry)) (now (out .exit)) ⌝ }
+    ensures { λ r. ⌜ DoesAt (i * outputSize) (effectIn c t (now (zone .entry)) (cond (c .second) (now (second .entry)) (now (first .entry))) (now (m .entry)) (now (subs .entry))) r (now (subs .exit)) (now (out .entry)) (now (out .exit)) ⌝ }
 {
-    let x = session_at(server, i);
+    let x = c.session;
     let clocks = x.clocks;
-    let name = part(zone, 0, server.zone);
+    let name = part(zone, 0, c.zone);
     let at = output_at(i as u32);
-    receive(
-        name,
-        store,
-        server.records,
-        clocks,
-        subs,
-        x.count,
-        t,
-        m,
-        &mut out[at..],
-    )
+    let room = &mut out[at..];
+    if c.second {
+        return receive(name, second, c.records, clocks, subs, x.count, t, m, room);
+    }
+    receive(name, first, c.records, clocks, subs, x.count, t, m, room)
 }
 
 fn turn(
-    server: Server,
+    c: Context,
     zone: &Name,
-    store: &zone::Area,
+    first: &zone::Area,
+    second: &zone::Area,
     subs: &mut session::Area,
     t: u64,
     i: u64,
     m: &[u8],
     out: &mut [u8],
-) -> Outcome
+) -> Heard
     requires { ⌜ (i < maxSessions) × (leastOutput ≤ length (now out)) ⌝ }
-    requires { ⌜ sessionAt i server .live ≡ true ⌝ }
-    ensures { λ r. ⌜ Turns server t i (now (zone .entry)) (now (store .entry)) (now (subs .entry)) (now (subs .exit)) (now (m .entry)) (now (out .entry)) (now (out .exit)) r ⌝ }
+    requires { ⌜ c .session .live ≡ true ⌝ }
+    ensures { λ h. ⌜ Turns c t i (now (zone .entry)) (cond (c .second) (now (second .entry)) (now (first .entry))) (now (subs .entry)) (now (subs .exit)) (now (m .entry)) (now (out .entry)) (now (out .exit)) h ⌝ }
 {
-    let received = hear(server, zone, store, subs, t, i, m, out);
-    concluded(server, t, i, received)
+    concluded(i, attend(c, zone, first, second, subs, t, i, m, out))
 }
 
-// The session of a number has its own subscriptions.
+// The session of a number has its own subscriptions. Which number it is comes as three truths: the calls then differ in what
+// is lent alone, and are compiled as one.
 fn deliver(
-    server: Server,
+    is0: bool,
+    is1: bool,
+    is2: bool,
+    c: Context,
     zone: &Name,
-    store: &zone::Area,
+    first: &zone::Area,
+    second: &zone::Area,
     s0: &mut session::Area,
     s1: &mut session::Area,
     s2: &mut session::Area,
@@ -156,21 +158,93 @@ fn deliver(
     i: u64,
     m: &[u8],
     out: &mut [u8],
-) -> Outcome
+) -> Heard
+    requires { ⌜ Numbered is0 is1 is2 i ⌝ }
     requires { ⌜ (i < maxSessions) × (leastOutput ≤ length (now out)) ⌝ }
-    requires { ⌜ sessionAt i server .live ≡ true ⌝ }
-    ensures { λ r. ⌜ Delivers server t i (now (zone .entry)) (now (store .entry)) (now (m .entry)) (now (out .entry)) (now (out .exit)) (now (s0 .entry)) (now (s1 .entry)) (now (s2 .entry)) (now (s3 .entry)) (now (s0 .exit)) (now (s1 .exit)) (now (s2 .exit)) (now (s3 .exit)) r ⌝ }
+    requires { ⌜ c .session .live ≡ true ⌝ }
+    ensures { λ h. ⌜ Delivers c t i (now (zone .entry)) (cond (c .second) (now (second .entry)) (now (first .entry))) (now (m .entry)) (now (out .entry)) (now (out .exit)) (now (s0 .entry)) (now (s1 .entry)) (now (s2 .entry)) (now (s3 .entry)) (now (s0 .exit)) (now (s1 .exit)) (now (s2 .exit)) (now (s3 .exit)) h ⌝ }
 {
-    if i == 0 {
-        return turn(server, zone, store, s0, t, 0, m, out);
+    if is0 {
+        return turn(c, zone, first, second, s0, t, i, m, out);
     }
-    if i == 1 {
-        return turn(server, zone, store, s1, t, 1, m, out);
+    if is1 {
+        return turn(c, zone, first, second, s1, t, i, m, out);
     }
-    if i == 2 {
-        return turn(server, zone, store, s2, t, 2, m, out);
+    if is2 {
+        return turn(c, zone, first, second, s2, t, i, m, out);
     }
-    turn(server, zone, store, s3, t, 3, m, out)
+    turn(c, zone, first, second, s3, t, i, m, out)
+}
+
+fn declined(x: Session, why: Refusal) -> Heard
+    ensures { λ h. ⌜ h ≡ declinedOf x why ⌝ }
+{
+    let answer = Answer::Refused(why);
+    Heard { session: x, answer }
+}
+
+// A message of the session of a number, given what it needs of the server's numbers.
+pub fn hear(
+    c: Context,
+    zone: &Name,
+    first: &zone::Area,
+    second: &zone::Area,
+    s0: &mut session::Area,
+    s1: &mut session::Area,
+    s2: &mut session::Area,
+    s3: &mut session::Area,
+    time: u64,
+    session: SessionNumber,
+    m: &[u8],
+    out: &mut [u8],
+) -> Heard
+    ensures { λ h. ⌜ Hears c (memoryOf (now (zone .entry)) (now (first .entry)) (now (second .entry)) (now (s0 .entry)) (now (s1 .entry)) (now (s2 .entry)) (now (s3 .entry))) (memoryOf (now (zone .entry)) (now (first .entry)) (now (second .entry)) (now (s0 .exit)) (now (s1 .exit)) (now (s2 .exit)) (now (s3 .exit))) time (session .0) (now (m .entry)) (now (out .entry)) (now (out .exit)) h ⌝ }
+{
+    let i = session.0;
+    let x = c.session;
+    let b = Brought {
+        output: Given::Is(out.len() as u64),
+        time,
+        session: Given::Is(i),
+        message: Given::Is(m.len() as u64),
+    };
+    match tested(c.latest, is_missing(i, x), b) {
+        Checked::Refuse(why) => declined(x, why),
+        Checked::Pass => {
+            deliver(
+                i == 0,
+                i == 1,
+                i == 2,
+                c,
+                zone,
+                first,
+                second,
+                s0,
+                s1,
+                s2,
+                s3,
+                time,
+                i,
+                m,
+                out,
+            )
+        }
+    }
+}
+
+// A refusal hands back the very numbers that came in.
+fn kept(server: Server, time: u64, i: u64, h: Heard) -> Outcome
+    ensures { λ r. ⌜ r ≡ heardIn server time i h ⌝ }
+{
+    let answer = h.answer;
+    if LAST_ACCEPTED < answer_number(answer) {
+        return Outcome { server, answer };
+    }
+    let x = h.session;
+    Outcome {
+        server: replaced(server, time, i, x),
+        answer,
+    }
 }
 
 pub fn message(
@@ -191,20 +265,20 @@ pub fn message(
     ensures { λ r. ⌜ areBytes (now (m .entry)) ≡ true ⌝ }
 {
     let i = session.0;
-    let b = Brought {
-        output: Given::Is(out.len() as u64),
+    let c = context_at(server, i);
+    let h = hear(
+        c,
+        zone,
+        first,
+        second,
+        s0,
+        s1,
+        s2,
+        s3,
         time,
-        session: Given::Is(i),
-        message: Given::Is(m.len() as u64),
-    };
-    match check(server, b) {
-        Checked::Refuse(why) => refused(server, why),
-        Checked::Pass => {
-            if server.second {
-                deliver(server, zone, second, s0, s1, s2, s3, time, i, m, out)
-            } else {
-                deliver(server, zone, first, s0, s1, s2, s3, time, i, m, out)
-            }
-        }
-    }
+        session,
+        m,
+        out,
+    );
+    kept(server, time, i, h)
 }

@@ -6,6 +6,9 @@ ghost use mathlib.Core.Path.{_≡_};
 ghost use Rattle.service.specs.Answer.{faultNumber, refusalNumber, answerNumber};
 ghost use Rattle.server.specs.Answers.{answerOf};
 
+// 01: answers 1 to 5 take the time, and 10 to 20 change nothing.
+pub const LAST_ACCEPTED: u32 = 5;
+
 pub fn fault_number(fault: BatchFault) -> u32
     ensures { λ r. ⌜ r ≡ faultNumber fault ⌝ }
 {

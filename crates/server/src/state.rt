@@ -2,7 +2,7 @@
 use session::Clocks;
 use session::started;
 ghost use mathlib.Core.Path.{_≡_};
-ghost use Rattle.server.specs.Numbers.{bareOf, vacancy, newcomer, sessionAt, putSession, atTime, freshOf};
+ghost use Rattle.server.specs.Numbers.{bareOf, vacancy, newcomer, sessionAt, contextOf, putSession, atTime, freshOf};
 
 pub const SESSIONS: u64 = 4;
 
@@ -26,6 +26,15 @@ pub struct Server {
     pub s1: Session,
     pub s2: Session,
     pub s3: Session,
+}
+
+// What a message of one session needs of the numbers.
+pub struct Context {
+    pub latest: u64,
+    pub zone: usize,
+    pub records: usize,
+    pub second: bool,
+    pub session: Session,
 }
 
 // With no subscription, and both clocks started at a time.
@@ -87,6 +96,18 @@ pub fn session_at(server: Server, i: u64) -> Session
         return server.s3;
     }
     vacant()
+}
+
+pub fn context_at(server: Server, i: u64) -> Context
+    ensures { λ r. ⌜ r ≡ contextOf i server ⌝ }
+{
+    Context {
+        latest: server.latest,
+        zone: server.zone,
+        records: server.records,
+        second: server.second,
+        session: session_at(server, i),
+    }
 }
 
 // With another session at a number; past the last one nothing changes.

@@ -5,6 +5,7 @@ use native.Mathlib.Omega.{arith}
 use mathlib.Core.Bool.{Bool, true, false}
 use mathlib.Core.List.{List, []}
 use mathlib.Core.Path.{_≡_, refl, ap, _∙_}
+use borrow.Author.Tests.{le-ltb}
 use Rattle.wire.specs.Name.{isName}
 use Rattle.service.specs.Answer.{refusalNumber, answerNumber}
 use Rattle.service.specs.Call as Call
@@ -20,11 +21,12 @@ use Rattle.server.specs.declared.starting.Started.{Started}
 use Rattle.server.specs.declared.starting.Started.the-variants.{Running}
 use Rattle.server.specs.declared.starting.Started.the-variants as Start
 use Rattle.server.specs.Memory.{Memory, memoryOf, stateOf}
-use Rattle.server.specs.Answers.{Gives, answerOf}
+use Rattle.server.specs.Answers.{Gives, answerOf, lastAccepted, keptBy, heardIn}
+use Rattle.server.specs.declared.answer.Heard.{Heard}
 use Rattle.server.specs.Starting.{Starts}
-use Rattle.weavemitten.specs.Words.{serverOf, Saved}
+use Rattle.weavemitten.specs.Words.{serverOf, Saved, SavedSession}
 use Rattle.weavemitten.specs.Values.{valuesOf}
-use Rattle.weavemitten.specs.Calls.{heldBy, lastAccepted, Keeps, Returns, ReturnsWith, Begins}
+use Rattle.weavemitten.specs.Calls.{heldBy, Keeps, Returns, ReturnsWith, Begins}
 
 -- ---- what is kept
 
@@ -34,6 +36,17 @@ module _ (w : List ℕ) (u : Outcome) (r : ℕ) (e : r ≡ answerNumber (answerO
 
   pub kept-same : lastAccepted < r → Keeps w w u r
   kept-same h = record { answer = e; held = λ g. absurd (omega arith); unchanged = λ g. refl }
+
+-- The same of a message, of which its session is kept.
+module _ (w : List ℕ) (t i : ℕ) (h : Heard) (r : ℕ) (e : r ≡ answerNumber (answerOf (h .answer))) where
+  pub kept-session : r ≤ lastAccepted → {w′ : List ℕ} → SavedSession t i (h .session) w w′ → Keeps w w′ (heardIn (serverOf w) t i h) r
+  unfolding keptBy
+  kept-session g x =
+      record {
+        answer = e;
+        held = λ k. rw (← e, le-ltb lastAccepted r g) (x .server);
+        unchanged = λ k. absurd (omega arith);
+      }
 
 -- ---- a number above 5 is a refusal's
 

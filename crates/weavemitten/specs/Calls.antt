@@ -10,14 +10,10 @@ use Rattle.service.specs.State.{State, fresh}
 use Rattle.service.specs.Answer.{answerNumber}
 use Rattle.service.specs.Call as Call
 use Rattle.server.specs.Memory.{Memory, withZone, stateOf}
-use Rattle.server.specs.Answers.{answerOf}
+use Rattle.server.specs.Answers.{answerOf, lastAccepted}
 use Rattle.server.specs.declared.answer.Outcome.{Outcome}
 use Rattle.weavemitten.specs.Words.{serverOf}
 use Rattle.weavemitten.specs.Values.{valuesOf}
-
--- 01: "Answers 10 to 20 change nothing", and "1 to 5 take the given time as latest".
-abbrev pub lastAccepted : ℕ
-lastAccepted = 5
 
 -- The state that lent words and memory hold.
 abbrev pub heldBy : List ℕ → Memory → State

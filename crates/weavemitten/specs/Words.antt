@@ -1,12 +1,14 @@
 -- How a server's numbers stand in the 28 words that a C host lends: four of the server, and six of each session.
-use Prim.Native.Nat.{ℕ, _+_, _%_, _<_}
+use Prim.Native.Nat.{ℕ, _+_, _*_, _%_, _<_}
 use mathlib.Core.Bool.{Bool, cond, not}
 use mathlib.Core.List.{List, [], _∷_}
 use mathlib.Core.Path.{_≡_}
-use lib.ListN.{getD}
+use lib.ListN.{getD, set}
+use lib.Seq.{sets}
 use lib.Dec.{eqb}
 use Rattle.server.specs.declared.state.Session.{Session}
 use Rattle.server.specs.declared.state.Server.{Server}
+use Rattle.server.specs.Numbers.{putSession, atTime}
 
 -- Any words are the numbers of a server: a truth is a word that is not 0, and of a timeout 32 bits count.
 abbrev pub truth : ℕ → Bool
@@ -14,6 +16,10 @@ truth n = not (eqb n 0)
 
 abbrev pub timeout : ℕ → ℕ
 timeout n = n % 4294967296
+
+-- Where the words of session i begin.
+abbrev pub placeOf : ℕ → ℕ
+placeOf i = 4 + 6 * i
 
 -- The session whose six words begin at a place.
 abbrev pub sessionIn : List ℕ → ℕ → Session
@@ -69,6 +75,20 @@ pub record Six (x : Session) (live active alive inactivity keepalive count : ℕ
   pub keepalives : keepalive ≡ x .clocks .keepalive
   pub counts : count ≡ x .count
   pub timed : Timed x
+
+-- A session's words stand at a place, and the others are as they were.
+pub record Stored (x : Session) (at : ℕ) (w w′ : List ℕ) : Type 0 where
+  pub words : w′ ≡ sets w at (sessionWords x [])
+  pub timed : Timed x
+
+-- The words after session i's are replaced at a time. Past the last session there are none.
+abbrev pub sessionSaved : ℕ → ℕ → Session → List ℕ → List ℕ
+sessionSaved t i x w = sets (set w 0 t) (placeOf i) (sessionWords x [])
+
+-- What is saved of a message: they are read as the server with that session, at that time.
+pub record SavedSession (t i : ℕ) (x : Session) (w w′ : List ℕ) : Type 0 where
+  pub words : w′ ≡ sessionSaved t i x w
+  pub server : serverOf w′ ≡ atTime t (putSession i x (serverOf w))
 
 -- What is saved: the server's words, which are read as that server again.
 pub record Saved (s : Server) (w : List ℕ) : Type 0 where

@@ -1,17 +1,21 @@
 // The calls of the service for a C host: each reads the server's numbers from the lent words, calls the server, and keeps
-// what it gave. No answer is 0, and the calls take any words and any octets.
+// what it gave; a message those of its session alone. No answer is 0, and the calls take any words and any octets.
 use crate::values::Values;
 use crate::values::put;
 use crate::words::Words;
 use crate::words::load;
+use crate::words::load_context;
 use crate::words::save;
+use crate::words::save_session;
+use server::Heard;
+use server::LAST_ACCEPTED;
 use server::Name;
 use server::Outcome;
 use server::Started;
 use server::answer_number;
 use server::batch;
 use server::close;
-use server::message;
+use server::hear;
 use server::open;
 use server::refusal_number;
 use server::start;
@@ -20,10 +24,9 @@ use service::SessionNumber;
 ghost use mathlib.Core.List.{[]};
 ghost use Rattle.service.specs.Call.{Bytes, outcome, opens, closes, receives, edits, ticks};
 ghost use Rattle.server.specs.Memory.{Memory, memoryOf};
+ghost use Rattle.server.specs.Answers.{heardIn};
+ghost use Rattle.weavemitten.specs.Words.{serverOf};
 ghost use Rattle.weavemitten.specs.Calls.{heldBy, Keeps, Begins, Returns, ReturnsWith, ReturnsOn};
-
-// 01: answers 1 to 5 take the time, and 10 to 20 change nothing.
-const LAST_ACCEPTED: u32 = 5;
 
 // The numbers of an outcome are kept, unless it is a refusal.
 fn keep(words: &mut Words, outcome: Outcome) -> u32
@@ -36,6 +39,19 @@ fn keep(words: &mut Words, outcome: Outcome) -> u32
         save(words, server);
     }
     number
+}
+
+// Of a message the time and its session's numbers are kept, unless it is refused.
+fn keep_session(words: &mut Words, t: u64, i: u64, heard: Heard) -> u32
+    ensures { λ r. ⌜ Keeps (now (words .entry)) (now (words .exit)) (heardIn (serverOf (now (words .entry))) t i heard) r ⌝ }
+{
+    let answer = heard.answer;
+    let told = answer_number(answer);
+    if told <= LAST_ACCEPTED {
+        let x = heard.session;
+        save_session(words, t, i, x);
+    }
+    told
 }
 
 #[no_mangle]
@@ -87,10 +103,10 @@ pub extern "C" fn weavemitten_call_message(
 ) -> u32
     ensures { λ r. ⌜ ReturnsOn (now (m .entry)) (now (values .exit)) (now (words .entry)) (now (words .exit)) (memoryOf (now (zone .entry)) (now (first .entry)) (now (second .entry)) (now (s0 .exit)) (now (s1 .exit)) (now (s2 .exit)) (now (s3 .exit))) (now (out .exit)) r (λ (bytes : Bytes). outcome (heldBy (now (words .entry)) (memoryOf (now (zone .entry)) (now (first .entry)) (now (second .entry)) (now (s0 .entry)) (now (s1 .entry)) (now (s2 .entry)) (now (s3 .entry)))) (receives time session bytes (now (out .entry)))) ⌝ }
 {
-    let server = load(words);
+    let context = load_context(words, session);
     let number = SessionNumber(session);
-    let outcome = message(
-        server,
+    let heard = hear(
+        context,
         zone,
         first,
         second,
@@ -103,9 +119,9 @@ pub extern "C" fn weavemitten_call_message(
         m,
         out,
     );
-    let answer = outcome.answer;
+    let answer = heard.answer;
     put(values, answer);
-    keep(words, outcome)
+    keep_session(words, time, session, heard)
 }
 
 #[no_mangle]

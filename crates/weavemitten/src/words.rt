@@ -1,10 +1,16 @@
 // A server's numbers in the words that a C host lends, which any words are.
+use server::Context;
+use server::SESSIONS;
 use server::Server;
 use server::Session;
+use server::vacant;
 use session::Clocks;
 ghost use Prim.Native.Nat.{_+_, _<_, _≤_};
 ghost use mathlib.Core.Path.{_≡_};
-ghost use Rattle.weavemitten.specs.Words.{flag, timeout, sessionIn, serverOf, Six, Saved};
+ghost use lib.ListN.{length};
+ghost use Rattle.service.specs.State.{maxSessions};
+ghost use Rattle.server.specs.Numbers.{sessionAt, contextOf};
+ghost use Rattle.weavemitten.specs.Words.{flag, timeout, placeOf, sessionIn, serverOf, Six, Saved, Stored, SavedSession};
 
 pub const WORDS: usize = 28;
 
@@ -26,6 +32,14 @@ fn timeout_of(word: u64) -> u32
     ensures { λ r. ⌜ r ≡ timeout word ⌝ }
 {
     (word % 4294967296) as u32
+}
+
+// Where the words of a session begin.
+fn place_of(i: u64) -> usize
+    requires { ⌜ i < maxSessions ⌝ }
+    ensures { λ r. ⌜ r ≡ placeOf i ⌝ }
+{
+    4 + 6 * (i as usize)
 }
 
 // The session whose words begin at a place.
@@ -58,6 +72,29 @@ pub fn load(words: &Words) -> Server
         s1: session_in(words, 10),
         s2: session_in(words, 16),
         s3: session_in(words, 22),
+    }
+}
+
+// The session of a number; past the last one a vacant place.
+fn session_at(words: &Words, i: u64) -> Session
+    ensures { λ r. ⌜ r ≡ sessionAt i (serverOf (now (words .entry))) ⌝ }
+{
+    if SESSIONS <= i {
+        return vacant();
+    }
+    session_in(words, place_of(i))
+}
+
+// What a message of one session needs.
+pub fn load_context(words: &Words, i: u64) -> Context
+    ensures { λ r. ⌜ r ≡ contextOf i (serverOf (now (words .entry))) ⌝ }
+{
+    Context {
+        latest: words[0],
+        zone: words[1] as usize,
+        records: words[2] as usize,
+        second: words[3] != 0,
+        session: session_at(words, i),
     }
 }
 
@@ -137,4 +174,37 @@ pub fn save(words: &mut Words, server: Server)
         d.keepalive,
         d.count,
     ];
+}
+
+// A session's six words from a place on.
+fn store_session(words: &mut [u64], at: usize, x: Session)
+    requires { ⌜ at + 6 ≤ length (now words) ⌝ }
+    ensures { λ _. ⌜ Stored x at (now (words .entry)) (now (words .exit)) ⌝ }
+{
+    let six = session_words(x);
+    words[at] = six.live;
+    words[at + 1] = six.active;
+    words[at + 2] = six.alive;
+    words[at + 3] = six.inactivity;
+    words[at + 4] = six.keepalive;
+    words[at + 5] = six.count;
+}
+
+// Past the last session there are no words.
+fn replace_session(words: &mut [u64], t: u64, i: u64, x: Session)
+    requires { ⌜ length (now words) ≡ 28 ⌝ }
+    ensures { λ _. ⌜ SavedSession t i x (now (words .entry)) (now (words .exit)) ⌝ }
+{
+    words[0] = t;
+    if SESSIONS <= i {
+        return;
+    }
+    store_session(words, place_of(i), x);
+}
+
+// The time and one session's words alone: what a message changes.
+pub fn save_session(words: &mut Words, t: u64, i: u64, x: Session)
+    ensures { λ _. ⌜ SavedSession t i x (now (words .entry)) (now (words .exit)) ⌝ }
+{
+    replace_session(words, t, i, x);
 }

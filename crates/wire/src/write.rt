@@ -1,19 +1,32 @@
 // Octets written into lent memory: every octet of the whole slice at exit is stated. What does not fit is not written.
+ghost use Prim.Native.Nat.{_≤_};
 ghost use mathlib.Core.Path.{_≡_};
+ghost use lib.ListN.{length, take};
 ghost use lib.Seq.{sets};
 ghost use Rattle.wire.specs.Field.{octets};
 
-// From the front of a slice on.
+// The first n octets of a source.
+fn fill(dst: &mut [u8], src: &[u8], n: usize)
+    requires { ⌜ (n ≤ length (now dst)) × (n ≤ length (now src)) ⌝ }
+    ensures { λ _. ⌜ now (dst .exit) ≡ sets (now (dst .entry)) 0 (take n (now (src .entry))) ⌝ }
+{
+    let mut i = 0;
+    while i < n {
+        dst[i] = src[i];
+        i += 1;
+    }
+}
+
+// From the front of a slice on. Two calls: where the source's length is known, the first is compiled as one store.
 fn copy(dst: &mut [u8], src: &[u8])
     ensures { λ _. ⌜ now (dst .exit) ≡ sets (now (dst .entry)) 0 (now (src .entry)) ⌝ }
 {
-    let mut i = 0;
-    while i < src.len() {
-        if dst.len() <= i {
-            return;
-        }
-        dst[i] = src[i];
-        i += 1;
+    let n = src.len();
+    let room = dst.len();
+    if n <= room {
+        fill(dst, src, n);
+    } else {
+        fill(dst, src, room);
     }
 }
 

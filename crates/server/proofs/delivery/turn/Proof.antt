@@ -6,8 +6,9 @@ use Rattle.server.proofs.delivery.turn.Tie as tie
 
 returns : tie.Need-returns
 returns c =
-    let a = c .before .before .before .before .before .before .before .before .args in
-    turned (a .server) (a .t) (a .i) (a .zone .now) (a .store .now) (a .subs .now) _ (a .m .now) (a .out .now) _ _ (c .before .before .before .before .before .before .before .before .pre .1) (c .before .before .before .hear .ensures) _ (c .concluded .ensures)
+    let s = c .before .before .before .before .before .before .before .before in
+    let a = s .args in
+    turned (a .c) (a .t) (a .i) (a .zone .now) _ (a .subs .now) _ (a .m .now) (a .out .now) _ _ (s .pre .1) (c .before .before .before .attend .ensures) _ (c .concluded .ensures)
 
 pub turn-spec : {M : Type 1} → statement M
 turn-spec =

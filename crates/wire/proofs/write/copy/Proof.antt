@@ -1,71 +1,32 @@
--- `wire::write::copy` meets its contract. The loop's invariant: the first `i` octets are written. Assumes nothing.
-use Prim.Native.Nat.{ℕ, _-_, _≤_}
-use mathlib.Core.List.{List}
-use mathlib.Core.Path.{_≡_, refl, ap, _∙_}
+-- `wire::write::copy` meets its contract: all that is given, or all that fits. Assumes nothing.
+use Prim.Native.Nat.{_≤_}
+use mathlib.Core.Path.{ap, _∙_}
 use native.Mathlib.Omega.{arith}
-use lib.ListN.{length, take, getD, set}
-use lib.Seq.{sets, length-sets, take-all}
-use Rattle.wire.proofs.Writes.{sets-step, sets-full}
+use lib.ListN.{length}
+use lib.Seq.{sets, take-all}
+use borrow.Author.Needs.{needs}
+use Rattle.wire.proofs.Writes.{sets-full}
 use Rattle.wire.proofs.write.copy.Statement.{statement}
 use Rattle.wire.proofs.write.copy.Tie as tie
 
-abbrev Inv-loop : tie.InvT-loop
-Inv-loop dst₀ src i₀ dst i = (i ≤ length src) × (dst ≡ sets dst₀ 0 (take i src))
-
-abbrev μ-loop : tie.MeasureT-loop
-μ-loop dst₀ src i₀ dst i = length src - i
-
-loop-holds : tie.Need-loop-holds Inv-loop μ-loop
-loop-holds c = (omega arith, refl)
-
-same-length : tie.Need-same-length Inv-loop μ-loop
-same-length c = ap length (c .before .before .loop .inv .1) ∙ simp length-sets
-
-returns : tie.Need-returns Inv-loop μ-loop
+returns : tie.Need-returns
 returns c =
-    let a = c .before .before .before .args in
-    let e = c .before .before .loop .inv .1 in
-    e ∙ sets-full (a .dst .now) (a .src .now) (c .before .before .loop .i) (omega arith) (omega (arith, simp length-sets at (ap length e)))
+    let a = c .before .before .before .before .before .before .before .args in
+    c .before .before .fill .ensures ∙ ap (sets (a .dst .now) 0) (take-all (length (a .src .now)) (a .src .now) (omega arith))
 
-shared-slice-read-dst : tie.Need-shared-slice-read-dst Inv-loop μ-loop
-shared-slice-read-dst c = omega arith
-
-slice-write-dst : tie.Need-slice-write-dst Inv-loop μ-loop
-slice-write-dst c = omega arith
-
-add-i : tie.Need-add-i Inv-loop μ-loop
-add-i c = omega arith
-
-loop-less : tie.Need-loop-less Inv-loop μ-loop
-loop-less c = omega arith
-
-loop-again : tie.Need-loop-again Inv-loop μ-loop
-loop-again c =
-    let s = c .before .before .before .before .args .src .now in
-    let i = c .before .before .before .loop .i in
-    (omega arith, ap (λ (l : List ℕ). set l i (getD s i 0)) (c .before .before .before .loop .inv .1) ∙ sets-step _ s i (omega arith))
-
-same-length-2 : tie.Need-same-length-2 Inv-loop μ-loop
-same-length-2 c = ap length (c .before .loop .inv .1) ∙ simp length-sets
-
-returns-2 : tie.Need-returns-2 Inv-loop μ-loop
+returns-2 : tie.Need-returns-2
 returns-2 c =
-    let a = c .before .before .args in
-    c .before .loop .inv .1 ∙ ap (sets (a .dst .now) 0) (take-all (c .before .loop .i) (a .src .now) (omega arith))
+    let a = c .before .before .before .before .before .before .before .args in
+    let h : length (a .dst .now) ≤ length (a .src .now) = omega arith in
+    c .before .before .fill2 .ensures ∙ sets-full (a .dst .now) (a .src .now) (length (a .dst .now)) h (omega arith)
 
 pub copy-spec : {M : Type 1} → statement M
 copy-spec =
     tie.close
     (tie.spec
-    Inv-loop
-    μ-loop
-    loop-holds
-    same-length
+    (λ c κs. search needs)
+    (λ c κs. search needs)
+    (λ c. search needs)
     returns
-    shared-slice-read-dst
-    slice-write-dst
-    add-i
-    loop-less
-    loop-again
-    same-length-2
+    (λ c. search needs)
     returns-2)
