@@ -304,6 +304,31 @@ module _ (c : Context) (t i : ℕ) (zone first second m o a b d e : List ℕ) (s
         unchanged = λ x p. absurd (u .accepted x p);
       }
 
+-- Every context is a server's: one with that session at every number.
+pub alike : Context → Server
+alike c =
+    record {
+      latest = c .latest;
+      zone = c .zone;
+      records = c .records;
+      second = c .second;
+      s0 = c .session;
+      s1 = c .session;
+      s2 = c .session;
+      s3 = c .session;
+    }
+
+pub some-has : (c : Context) (i : ℕ) → Has c i (alike c)
+unfolding alike sessionAt
+some-has c i = record { numbers = refl; session = at i }
+  where
+    at : (j : ℕ) → j < maxSessions → sessionAt j (alike c) ≡ c .session
+    at zero h = refl
+    at (suc zero) h = refl
+    at (suc (suc zero)) h = refl
+    at (suc (suc (suc zero))) h = refl
+    at (suc (suc (suc (suc j)))) h = absurd (omega arith)
+
 -- A server has its own context.
 pub has-context : (s : Server) (i : ℕ) (c : Context) → c ≡ contextOf i s → Has c i s
 has-context s i c e = record { numbers = rw e; session = λ w. sym (ap (λ (x : Context). x .session) e) }
