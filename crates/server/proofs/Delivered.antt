@@ -34,7 +34,7 @@ use Rattle.server.specs.declared.answer.Outcome.{Outcome}
 use Rattle.server.specs.declared.answer.Heard.{Heard}
 use Rattle.server.specs.declared.checks.Checked.{Checked}
 use Rattle.server.specs.declared.checks.Checked.the-variants.{Pass, Refuse}
-use Rattle.server.specs.Checks.{refusedBy, firstOf, testedOf, missing}
+use Rattle.server.specs.Checks.{refusedBy, firstOf, testedOf, missing, messageBrought}
 use Rattle.server.proofs.Refusals.{tested-refusal}
 use Rattle.server.proofs.Outcomes.{gives-refused, gives-passed}
 use Rattle.server.specs.declared.state.Session.{Session}
@@ -206,8 +206,8 @@ pub record Ready (c : Context) (i : ℕ) (o : List ℕ) : Type 0 where
   pub alive : c .session .live ≡ true
 
 -- What the checks say of a message, from its context.
-module _ (c : Context) (t i n : ℕ) (o : List ℕ) (absent : Bool) (l : absent ≡ missing i (c .session)) (k : Checked)
-    (h : refusedBy k ≡ testedOf (c .latest) absent (record { output = some (length o); time = t; session = some i; message = some n })) where
+module _ (c : Context) (t i n : ℕ) (o : List ℕ) (k : Checked)
+    (h : refusedBy k ≡ testedOf (c .latest) (missing i (c .session)) (messageBrought t i (length o) n)) where
   -- The session is absent in every server that has the context, or in none.
   absent-in : (s : Server) → Has c i s → (mem : Memory) → missing i (c .session) ≡ isAbsent (stateOf s mem) (some i)
   absent-in s e mem = go (leb maxSessions i) refl
@@ -220,17 +220,17 @@ module _ (c : Context) (t i n : ℕ) (o : List ℕ) (absent : Bool) (l : absent 
           ∙ sym (ap isFree (slot-at s mem i) ∙ slot-free (sessionAt i s) (areaAt i mem)))
 
   pub checked-in : (s : Server) → Has c i s → (mem : Memory)
-      → refusedBy k ≡ refusalOf (stateOf s mem) (record { output = some (length o); time = t; session = some i; message = some n })
+      → refusedBy k ≡ refusalOf (stateOf s mem) (messageBrought t i (length o) n)
   checked-in s e mem =
       h
-      ∙ tested-refusal s mem (record { output = some (length o); time = t; session = some i; message = some n }) (c .latest)
-      (sym (ap (λ (x : Context). x .latest) (e .numbers))) absent (l ∙ absent-in s e mem)
+      ∙ tested-refusal s mem (messageBrought t i (length o) n) (c .latest)
+      (sym (ap (λ (x : Context). x .latest) (e .numbers))) (missing i (c .session)) (absent-in s e mem)
 
   -- A message that passed has a session and room.
   pub ready : k ≡ Pass → Ready c i o
   ready e =
-      let p = first-none (ltb (length o) leastOutput) (ltb t (c .latest)) absent (ltb maxMessage n) (sym h ∙ ap refusedBy e) in
-      let q = or-false (leb maxSessions i) (not (c .session .live)) (sym l ∙ p .1) in
+      let p = first-none (ltb (length o) leastOutput) (ltb t (c .latest)) (missing i (c .session)) (ltb maxMessage n) (sym h ∙ ap refusedBy e) in
+      let q = or-false (leb maxSessions i) (not (c .session .live)) (p .1) in
       record {
         known = leb-false maxSessions i (q .0);
         roomy = ltb-false (length o) leastOutput (p .0);
@@ -276,16 +276,15 @@ refusing-in : (s : Server) (t i : ℕ) (x : Session) (y : Refusal) → heardIn s
 unfolding keptBy answerNumber answerOf
 refusing-in s t i x y = rw (lt-ltb lastAccepted (refusalNumber y) (refusal-above y))
 
-module _ (c : Context) (t i : ℕ) (zone first second m o a b d e : List ℕ) (small : areBytes m ≡ true) (absent : Bool)
-    (l : absent ≡ missing i (c .session)) (k : Checked)
-    (h : refusedBy k ≡ testedOf (c .latest) absent (record { output = some (length o); time = t; session = some i; message = some (length m) })) where
+module _ (c : Context) (t i : ℕ) (zone first second m o a b d e : List ℕ) (small : areBytes m ≡ true) (k : Checked)
+    (h : refusedBy k ≡ testedOf (c .latest) (missing i (c .session)) (messageBrought t i (length o) (length m))) where
   pub heard-refused : (x : Refusal) → k ≡ Refuse x → (r : Heard) → r ≡ declinedOf (c .session) x
       → Hears c (memoryOf zone first second a b d e) (memoryOf zone first second a b d e) t i m o o r
   heard-refused x f r g =
       record {
         small = small;
         serves = λ y s w.
-            gives-refused s (receives t i (record { list = m; small = y }) o) k (checked-in c t i (length m) o absent l k h s w) x f
+            gives-refused s (receives t i (record { list = m; small = y }) o) k (checked-in c t i (length m) o k h s w) x f
             (heardIn s t i r) (ap (heardIn s t i) g ∙ refusing-in s t i (c .session) x) (memoryOf zone first second a b d e);
         unchanged = λ y q. ap (λ (z : Heard). z .session) g;
       }
@@ -298,12 +297,37 @@ module _ (c : Context) (t i : ℕ) (zone first second m o a b d e : List ℕ) (s
       record {
         small = small;
         serves = λ y s w.
-            let v : contextOf i s ≡ c = ap (λ (x : Session). contextWith x s) (w .session (ready c t i (length m) o absent l k h f .known)) ∙ w .numbers in
-            gives-passed s (receives t i (record { list = m; small = y }) o) k (checked-in c t i (length m) o absent l k h s w) f (heardIn s t i r)
+            let v : contextOf i s ≡ c = ap (λ (x : Session). contextWith x s) (w .session (ready c t i (length m) o k h f .known)) ∙ w .numbers in
+            gives-passed s (receives t i (record { list = m; small = y }) o) k (checked-in c t i (length m) o k h s w) f (heardIn s t i r)
             (memoryOf zone first second a b d e) (memoryOf zone first second a′ b′ d′ e′) o′
             (u .gives s (memoryOf zone first second a b d e) v refl (ap (λ (x : Context). cond (x .second) second first) v));
         unchanged = λ x p. absurd (u .accepted x p);
       }
+
+-- Every context is a server's: one with that session at every number.
+pub alike : Context → Server
+alike c =
+    record {
+      latest = c .latest;
+      zone = c .zone;
+      records = c .records;
+      second = c .second;
+      s0 = c .session;
+      s1 = c .session;
+      s2 = c .session;
+      s3 = c .session;
+    }
+
+pub some-has : (c : Context) (i : ℕ) → Has c i (alike c)
+unfolding alike sessionAt
+some-has c i = record { numbers = refl; session = at i }
+  where
+    at : (j : ℕ) → j < maxSessions → sessionAt j (alike c) ≡ c .session
+    at zero h = refl
+    at (suc zero) h = refl
+    at (suc (suc zero)) h = refl
+    at (suc (suc (suc zero))) h = refl
+    at (suc (suc (suc (suc j)))) h = absurd (omega arith)
 
 -- A server has its own context.
 pub has-context : (s : Server) (i : ℕ) (c : Context) → c ≡ contextOf i s → Has c i s

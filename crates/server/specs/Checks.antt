@@ -43,6 +43,10 @@ testedOf latest absent b =
 abbrev pub missing : ℕ → Session → Bool
 missing i x = leb maxSessions i || not (x .live)
 
+-- What a message on session i brings, by the lengths of its output slice and of its octets.
+abbrev pub messageBrought : ℕ → ℕ → ℕ → ℕ → Service.Brought
+messageBrought t i output n = record { output = some output; time = t; session = some i; message = some n }
+
 -- Where a place is free.
 abbrev pub vacantOf : Vacant → Option ℕ
 vacantOf (At i) = some i

@@ -1,6 +1,7 @@
 // The checks that calls share, in 01's order: 12, 11, 10, 18.
 use crate::output::LEAST_OUTPUT;
 use crate::places::is_free;
+use crate::state::Context;
 use crate::state::SESSIONS;
 use crate::state::Server;
 use crate::state::Session;
@@ -8,7 +9,7 @@ use service::Refusal;
 ghost use mathlib.Core.Path.{_≡_};
 ghost use Rattle.service.specs.Checks.{isShort, isLong, isAbsent, refusalOf};
 ghost use Rattle.server.specs.Memory.{Memory, stateOf};
-ghost use Rattle.server.specs.Checks.{givenOf, broughtOf, refusedBy, firstOf, testedOf, missing};
+ghost use Rattle.server.specs.Checks.{givenOf, broughtOf, refusedBy, firstOf, testedOf, missing, messageBrought};
 
 // 01: "Message: 65,535 bytes."
 const MAX_MESSAGE: u64 = 65535;
@@ -79,7 +80,7 @@ fn first_of(short: bool, early: bool, absent: bool, long: bool) -> Checked
 }
 
 // The four, where the latest time and whether the session is absent are known.
-pub fn tested(latest: u64, absent: bool, b: Brought) -> Checked
+fn tested(latest: u64, absent: bool, b: Brought) -> Checked
     ensures { λ r. ⌜ refusedBy r ≡ testedOf latest absent (broughtOf b) ⌝ }
 {
     let output = b.output;
@@ -96,11 +97,25 @@ pub fn check(server: Server, b: Brought) -> Checked
 }
 
 // Whether a session of a number is absent, by its own numbers.
-pub fn is_missing(i: u64, x: Session) -> bool
+fn is_missing(i: u64, x: Session) -> bool
     ensures { λ r. ⌜ r ≡ missing i x ⌝ }
 {
     if SESSIONS <= i {
         return true;
     }
     !x.live
+}
+
+// The checks of a message on session i, given the lengths of its output slice and of its octets.
+pub fn check_message(c: Context, time: u64, i: u64, output: usize, message: usize) -> Checked
+    ensures { λ r. ⌜ refusedBy r ≡ testedOf (c .latest) (missing i (c .session)) (messageBrought time i output message) ⌝ }
+{
+    let x = c.session;
+    let b = Brought {
+        output: Given::Is(output as u64),
+        time,
+        session: Given::Is(i),
+        message: Given::Is(message as u64),
+    };
+    tested(c.latest, is_missing(i, x), b)
 }

@@ -3,11 +3,8 @@ use crate::answer::Answer;
 use crate::answer::Counts;
 use crate::answer::Heard;
 use crate::answer::Outcome;
-use crate::checks::Brought;
 use crate::checks::Checked;
-use crate::checks::Given;
-use crate::checks::is_missing;
-use crate::checks::tested;
+use crate::checks::check_message;
 use crate::number::LAST_ACCEPTED;
 use crate::number::answer_number;
 use crate::output::output_at;
@@ -202,33 +199,25 @@ pub fn hear(
 {
     let i = session.0;
     let x = c.session;
-    let b = Brought {
-        output: Given::Is(out.len() as u64),
-        time,
-        session: Given::Is(i),
-        message: Given::Is(m.len() as u64),
-    };
-    match tested(c.latest, is_missing(i, x), b) {
+    match check_message(c, time, i, out.len(), m.len()) {
         Checked::Refuse(why) => declined(x, why),
-        Checked::Pass => {
-            deliver(
-                i == 0,
-                i == 1,
-                i == 2,
-                c,
-                zone,
-                first,
-                second,
-                s0,
-                s1,
-                s2,
-                s3,
-                time,
-                i,
-                m,
-                out,
-            )
-        }
+        Checked::Pass => deliver(
+            i == 0,
+            i == 1,
+            i == 2,
+            c,
+            zone,
+            first,
+            second,
+            s0,
+            s1,
+            s2,
+            s3,
+            time,
+            i,
+            m,
+            out,
+        ),
     }
 }
 
