@@ -1,20 +1,21 @@
 -- How the loops over names go: what a turn and an end say of the whole, from what is left to be looked at.
-use Prim.Native.Nat.{ℕ, zero, suc, _+_, _-_, _≤_, _<_}
+use Prim.Native.Nat.{ℕ, zero, suc, _+_, _-_, _%_, _≤_, _<_}
 use mathlib.Core.Path.{_≡_, refl, sym, ap, ap₂, _∙_}
 use mathlib.Core.Bool.{Bool, true, false, cond, _&&_, _||_}
-use mathlib.Core.List.{List, [], _∷_}
+use mathlib.Core.List.{List, [], _∷_, map}
 use mathlib.Core.Option.{Option, none, some}
 use native.Mathlib.Numerals.{add-one}
 use native.Mathlib.Omega.{arith}
-use lib.ListN.{length, take, drop, getD, length-take, length-map, drop-of-length-le}
+use lib.ListN.{length, take, drop, getD, length-take, length-map, List·getD-map, drop-of-length-le}
 use lib.Seq.{drop-cons, drop-drop, getD-take}
 use lib.Dec.{eqb}
 use borrow.Author.Tests.{le-leb, lt-leb, eq-eqb, ne-eqb}
 use Rattle.wire.specs.Name.{maxLabel, maxName, after, labels, nameLength, lower, lowered, sameOctets, sameName, endsIn, within}
+use Rattle.wire.specs.Case.{caseless}
 use Rattle.wire.specs.Reading.{reading, nameFront, nameAt}
 use Rattle.wire.specs.declared.name.NameReading.{NameReading}
 use Rattle.wire.specs.declared.name.NameReading.the-variants.{Name, NoName}
-use Rattle.wire.proofs.Names.{after-zero, after-after, labels-drop, lowered-at, lowered-take, lowered-drop, sameOctets-true, sameName-of, sameName-length, endsIn-drop}
+use Rattle.wire.proofs.Names.{after-zero, after-after, labels-drop, lower-cases, lowered-take, lowered-drop, sameOctets-true, sameOctets-of, sameName-of, sameName-length, endsIn-drop}
 use Rattle.wire.proofs.Writes.{drop-slice}
 
 true-false : (t : Bool) → (t ≡ true → ⊥) → false ≡ t
@@ -170,19 +171,55 @@ rest-slice a b at t e = e ∙ ap₂ sameOctets (drop-slice a at) (drop-slice b a
 pub unlike-length : (x y : List ℕ) → (length x ≡ length y → ⊥) → false ≡ sameOctets x y
 unlike-length x y h = true-false (sameOctets x y) (λ e. h (ap length (sameOctets-true x y e)))
 
+-- ---- what octets are mapped to, side by side
+
+module _ (f : ℕ → ℕ) (z : f 0 ≡ 0) (a b : List ℕ) where
+  pub mapped-none : length a ≡ length b → Compared (map f a) (map f b) true 0
+  mapped-none h = compared-none (map f a) (map f b) (length-map a f ∙ h ∙ sym (length-map b f))
+
+  module _ (same : Bool) (i : ℕ) (r : Compared (map f a) (map f b) same i) where
+    pub mapped-octet : (u v : ℕ) → u ≡ f (getD a i 0) → v ≡ f (getD b i 0) → i < length a → Compared (map f a) (map f b) (same && eqb u v) (i + 1)
+    mapped-octet u v eu ev h =
+        compared-octet (map f a) (map f b) same i r u v (eu ∙ sym (at-mapped a)) (ev ∙ sym (at-mapped b)) (omega (arith, length-map a f))
+      where
+        at-mapped : (l : List ℕ) → getD (map f l) i 0 ≡ f (getD l i 0)
+        at-mapped l = ap (getD (map f l) i) (sym z) ∙ List·getD-map f l i 0
+
+    pub mapped-end : length a ≤ i → same ≡ sameOctets (map f a) (map f b)
+    mapped-end h = compared-end (map f a) (map f b) same i r (omega (arith, length-map a f))
+
 -- ---- two names side by side: their lowered octets are
 
-pub alike-none : (a b : List ℕ) → length a ≡ length b → Compared (lowered a) (lowered b) true 0
-alike-none a b h = compared-none (lowered a) (lowered b) (length-map a lower ∙ h ∙ sym (length-map b lower))
+lower-caseless : (b : ℕ) → caseless (lower b) ≡ caseless b
+unfolding caseless
+lower-caseless b = lower-cases (λ (c : ℕ). c % 32 ≡ b % 32) b (λ h. refl) (λ h k. omega arith) (λ h. refl)
 
-pub alike-octet : (a b : List ℕ) (same : Bool) (i : ℕ) → Compared (lowered a) (lowered b) same i
-    → (u v : ℕ) → u ≡ lower (getD a i 0) → v ≡ lower (getD b i 0) → i < length a → Compared (lowered a) (lowered b) (same && eqb u v) (i + 1)
-alike-octet a b same i r u v eu ev h =
-    compared-octet (lowered a) (lowered b) same i r u v (eu ∙ sym (lowered-at a i)) (ev ∙ sym (lowered-at b i)) (omega (arith, length-map a lower))
+lowered-caseless : (a : List ℕ) → map caseless (lowered a) ≡ map caseless a
+lowered-caseless [] = refl
+lowered-caseless (b ∷ a) = ap₂ (λ (c : ℕ) (l : List ℕ). c ∷ l) (lower-caseless b) (lowered-caseless a)
+
+pub caseless-zero : caseless 0 ≡ 0
+unfolding caseless
+caseless-zero = refl
+
+pub lower-zero : lower 0 ≡ 0
+unfolding lower
+lower-zero = refl
+
+-- Names that are the same are so but for case.
+pub unlike-caseless : (a b : List ℕ) → false ≡ sameOctets (map caseless a) (map caseless b) → false ≡ sameName a b
+unfolding sameName
+unlike-caseless a b e = true-false (sameName a b) (λ s. differs (e ∙ near (sameOctets-true (lowered a) (lowered b) s)))
+  where
+    differs : _≡_ {A = Bool} false true → ⊥
+    differs d = absurd (let z : _≡_ {A = ℕ} 0 1 = cc in omega arith)
+
+    near : lowered a ≡ lowered b → sameOctets (map caseless a) (map caseless b) ≡ true
+    near s = sameOctets-of (map caseless a) (map caseless b) (sym (lowered-caseless a) ∙ ap (map caseless) s ∙ lowered-caseless b)
 
 pub alike-end : (a b : List ℕ) (same : Bool) (i : ℕ) → Compared (lowered a) (lowered b) same i → length a ≤ i → same ≡ sameName a b
 unfolding sameName
-alike-end a b same i r h = compared-end (lowered a) (lowered b) same i r (omega (arith, length-map a lower))
+alike-end a b same i r h = mapped-end lower lower-zero a b same i r h
 
 pub alike-whole : (a b : List ℕ) → true ≡ sameOctets a b → true ≡ sameName a b
 alike-whole a b e = sym (sameName-of a b (ap lowered (sameOctets-true a b (sym e))))

@@ -1,8 +1,10 @@
 // Names: reading one, comparing two, and one being at or below another.
 ghost use Prim.Native.Nat.{_≤_};
 ghost use mathlib.Core.Path.{_≡_};
+ghost use mathlib.Core.List.{map};
 ghost use lib.ListN.{length};
 ghost use Rattle.wire.specs.Name.{lower, sameOctets, sameName, within as isWithin};
+ghost use Rattle.wire.specs.Case.{caseless};
 ghost use Rattle.wire.specs.Reading.{nameAt, nameFront};
 
 // What stands at a place: a name of so many octets, the zero octet at its end counted; or no name.
@@ -65,14 +67,31 @@ fn same_part(a: &[u8], b: &[u8]) -> bool
     same
 }
 
-// Likewise but for the case of letters. Names that are the same are mostly so as they stand.
-fn alike_part(a: &[u8], b: &[u8]) -> bool
+// What is left of an octet by 32 is the same in both cases of a letter.
+fn caseless(b: u8) -> u8
+    ensures { λ r. ⌜ r ≡ caseless b ⌝ }
+{
+    b % 32
+}
+
+// Octets that differ here differ in more than case. This is cheap beside lowering them.
+fn near_part(a: &[u8], b: &[u8]) -> bool
+    requires { ⌜ length (now a) ≡ length (now b) ⌝ }
+    ensures { λ r. ⌜ r ≡ sameOctets (map caseless (now (a .entry))) (map caseless (now (b .entry))) ⌝ }
+{
+    let mut same = true;
+    let mut i = 0;
+    while i < a.len() {
+        same = same & (caseless(a[i]) == caseless(b[i]));
+        i += 1;
+    }
+    same
+}
+
+fn lowered_part(a: &[u8], b: &[u8]) -> bool
     requires { ⌜ length (now a) ≡ length (now b) ⌝ }
     ensures { λ r. ⌜ r ≡ sameName (now (a .entry)) (now (b .entry)) ⌝ }
 {
-    if same_part(a, b) {
-        return true;
-    }
     let mut same = true;
     let mut i = 0;
     while i < a.len() {
@@ -80,6 +99,20 @@ fn alike_part(a: &[u8], b: &[u8]) -> bool
         i += 1;
     }
     same
+}
+
+// But for the case of letters. Parts are mostly the same as they stand, or not at all.
+fn alike_part(a: &[u8], b: &[u8]) -> bool
+    requires { ⌜ length (now a) ≡ length (now b) ⌝ }
+    ensures { λ r. ⌜ r ≡ sameName (now (a .entry)) (now (b .entry)) ⌝ }
+{
+    if same_part(a, b) {
+        return true;
+    }
+    if near_part(a, b) {
+        return lowered_part(a, b);
+    }
+    false
 }
 
 // Part by part, leaving at the first that differs. The last part ends where the octets end, so it may overlap the one before it.

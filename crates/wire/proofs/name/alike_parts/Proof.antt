@@ -5,8 +5,8 @@ use mathlib.Core.Bool.{true}
 use native.Mathlib.Omega.{arith}
 use borrow.Author.Tests.{not-true, not-false}
 use lib.ListN.{length, length-take, length-drop}
-use Rattle.wire.specs.Name.{lowered}
-use Rattle.wire.proofs.Loops.{Compared, alike-none, alike-of, same-lent, unlike-lent, last-part, lowered-slice, lowered-rest}
+use Rattle.wire.specs.Name.{lower, lowered}
+use Rattle.wire.proofs.Loops.{Compared, lower-zero, mapped-none, alike-of, same-lent, unlike-lent, last-part, lowered-slice, lowered-rest}
 use Rattle.wire.proofs.name.alike_parts.Statement.{statement}
 use Rattle.wire.proofs.name.alike_parts.Tie as tie
 
@@ -41,7 +41,7 @@ alike-parts-spec =
     Inv-loop
     μ-loop
     (λ c. omega arith)
-    (λ c. search alike-none)
+    (λ c. search (mapped-none lower lower-zero))
     (λ c. omega arith)
     (λ c. omega arith)
     (λ c. omega arith)
