@@ -177,9 +177,6 @@ pub fn same_name(a: &[u8], b: &[u8]) -> bool
     if PART <= a.len() {
         return alike_parts(a, b, PART);
     }
-    if SHORT <= a.len() {
-        return alike_parts(a, b, SHORT);
-    }
     alike_part(a, b)
 }
 
