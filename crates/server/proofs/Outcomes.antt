@@ -7,7 +7,7 @@ use mathlib.Core.Option.{Option, none, some}
 use mathlib.Core.Path.{_≡_, refl, sym, ap, _∙_}
 use lib.ListN.{set}
 use Rattle.session.specs.Clocks.{started}
-use Rattle.service.specs.State.{State, Slot, free, live, lowestFree}
+use Rattle.service.specs.State.{State, Slot, live, lowestFree}
 use Rattle.service.specs.Answer.{opened}
 use Rattle.service.specs.Checks.{refusalOf}
 use Rattle.service.specs.Call.{
@@ -28,19 +28,20 @@ use Rattle.service.specs.Call.{
 }
 use Rattle.service.specs.declared.refusal.Refusal.{Refusal}
 use Rattle.service.specs.declared.refusal.Refusal.the-variants.{AllOpen}
-use Rattle.server.specs.declared.state.Session.{Session}
 use Rattle.server.specs.declared.state.Server.{Server}
-use Rattle.server.specs.declared.answer.Answer.the-variants.{Done, Opened, Ended, Refused}
 use Rattle.server.specs.declared.answer.Flags.{Flags}
 use Rattle.server.specs.declared.answer.Outcome.{Outcome}
+use Rattle.server.specs.declared.change.Change.{Change}
+use Rattle.server.specs.declared.change.Change.the-variants.{Opens, Closes, Ends, Refuses}
 use Rattle.server.specs.declared.checks.Checked.{Checked}
 use Rattle.server.specs.declared.checks.Checked.the-variants.{Pass, Refuse}
 use Rattle.server.specs.declared.places.Vacant.{Vacant}
 use Rattle.server.specs.declared.places.Vacant.the-variants.{At, Nowhere}
-use Rattle.server.specs.Memory.{Memory, areaAt, slotOf, stateOf}
-use Rattle.server.specs.Numbers.{vacancy, newcomer, putSession, atTime, sweptBy}
+use Rattle.server.specs.Memory.{Memory, areaAt, stateOf}
+use Rattle.server.specs.Numbers.{vacancy, newcomer}
+use Rattle.server.specs.Changes.{answerBy, numbersBy, changedBy}
 use Rattle.server.specs.Checks.{refusedBy, vacantOf}
-use Rattle.server.specs.Answers.{Gives, answerOf, flagsOf, refusing}
+use Rattle.server.specs.Answers.{Gives, Serves, answerOf, flagsOf, refusing}
 use Rattle.server.proofs.States.{state-put, slot-vacancy, slot-newcomer}
 use Rattle.server.proofs.Ticks.{state-ticked}
 
@@ -84,25 +85,32 @@ module _ (s : Server) (call : Call) (k : Checked) (h : (m : Memory) → refusedB
       → Gives s r m′ o (passed (stateOf s m) call) → Gives s r m′ o (outcome (stateOf s m) call)
   gives-passed e r m m′ o g = rw (outcome-passed (stateOf s m) call (sym (h m) ∙ ap refusedBy e)) g
 
+-- ---- a change is refused, or made
+
+pub gives-refused-change : (s : Server) (call : Call) (k : Checked) → ((m : Memory) → refusedBy k ≡ refusalOf (stateOf s m) (brought call))
+    → (x : Refusal) → k ≡ Refuse x → (t : ℕ) (m : Memory) → Gives s (changedBy s t (Refuses x)) m (lent call) (outcome (stateOf s m) call)
+unfolding numbersBy answerBy
+gives-refused-change s call k h x e t m = gives-refused s call k h x e (changedBy s t (Refuses x)) refl m
+
+pub serves-changed : (s : Server) (call : Call) (t : ℕ) (k : Change) (r : Outcome) → r ≡ changedBy s t k
+    → ((m : Memory) → Serves s m call (changedBy s t k) m []) → (m : Memory) → Serves s m call r m []
+serves-changed s call t k r e h m = rw e (h m)
+
 -- ---- open
 
 module _ (s : Server) (t : ℕ) (v : Vacant) (h : (m : Memory) → vacantOf v ≡ lowestFree (stateOf s m .slots)) where
-  pub gives-all-open : v ≡ Nowhere → (r : Outcome) → r ≡ refusing s AllOpen → (m : Memory)
-      → Gives s r m [] (openOutcome (stateOf s m) t)
-  gives-all-open e r f m =
-      rw (open-none (stateOf s m) t (sym (h m) ∙ ap vacantOf e), f) (gives-refusing s AllOpen m [])
+  pub gives-all-open : v ≡ Nowhere → (m : Memory) → Gives s (changedBy s t (Refuses AllOpen)) m [] (openOutcome (stateOf s m) t)
+  unfolding numbersBy answerBy
+  gives-all-open e m = rw (open-none (stateOf s m) t (sym (h m) ∙ ap vacantOf e)) (gives-refusing s AllOpen m [])
 
-  pub gives-opened : (i : ℕ) → v ≡ At i → (x : Session) → x ≡ newcomer t → (z : Server) → z ≡ atTime t (putSession i x s) → (m : Memory)
-      → Gives s (record { server = z; answer = Opened (record { 0 = i }) }) m [] (openOutcome (stateOf s m) t)
-  unfolding answerOf
-  gives-opened i e x f z g m =
-      let slot : slotOf x (areaAt i m) ≡ live (record { subscriptions = []; clocks = started t })
-      = ap (λ (y : Session). slotOf y (areaAt i m)) f ∙ slot-newcomer t (areaAt i m) in
+  pub gives-opened : (i : ℕ) → v ≡ At i → (m : Memory) → Gives s (changedBy s t (Opens i)) m [] (openOutcome (stateOf s m) t)
+  unfolding numbersBy answerBy answerOf
+  gives-opened i e m =
       rw (open-some (stateOf s m) t i (sym (h m) ∙ ap vacantOf e))
       (record {
         next =
-            ap (λ (y : Server). stateOf y m) g ∙ state-put t i x s m
-            ∙ ap (λ (y : Slot). withSlots t (set (stateOf s m .slots) i y) (stateOf s m)) slot;
+            state-put t i (newcomer t) s m
+            ∙ ap (λ (y : Slot). withSlots t (set (stateOf s m .slots) i y) (stateOf s m)) (slot-newcomer t (areaAt i m));
         answer = refl;
         output = refl;
         unchanged = λ y p. absurd (let q : _≡_ {A = ℕ} 0 1 = cc in omega arith);
@@ -110,16 +118,13 @@ module _ (s : Server) (t : ℕ) (v : Vacant) (h : (m : Memory) → vacantOf v �
 
 -- ---- close
 
-pub gives-closed : (s : Server) (t i : ℕ) (x : Session) → x ≡ vacancy → (z : Server) → z ≡ atTime t (putSession i x s) → (m : Memory)
-    → Gives s (record { server = z; answer = Done }) m [] (closeOutcome (stateOf s m) t i)
-unfolding closeOutcome answerOf
-gives-closed s t i x f z g m =
-    let slot : slotOf x (areaAt i m) ≡ free
-    = ap (λ (y : Session). slotOf y (areaAt i m)) f ∙ slot-vacancy (areaAt i m) in
+pub gives-closed : (s : Server) (t i : ℕ) (m : Memory) → Gives s (changedBy s t (Closes i)) m [] (closeOutcome (stateOf s m) t i)
+unfolding numbersBy answerBy closeOutcome answerOf
+gives-closed s t i m =
     record {
       next =
-          ap (λ (y : Server). stateOf y m) g ∙ state-put t i x s m
-          ∙ ap (λ (y : Slot). withSlots t (set (stateOf s m .slots) i y) (stateOf s m)) slot;
+          state-put t i vacancy s m
+          ∙ ap (λ (y : Slot). withSlots t (set (stateOf s m .slots) i y) (stateOf s m)) (slot-vacancy (areaAt i m));
       answer = refl;
       output = refl;
       unchanged = λ y p. absurd (let q : _≡_ {A = ℕ} 0 1 = cc in omega arith);
@@ -128,12 +133,11 @@ gives-closed s t i x f z g m =
 -- ---- tick
 
 pub gives-ticked : (s : Server) (t : ℕ) (f : Flags) → ((m : Memory) → flagsOf f ≡ map (endsAt t) (stateOf s m .slots))
-    → (w : Server) → w ≡ sweptBy f s → (z : Server) → z ≡ atTime t w → (m : Memory)
-    → Gives s (record { server = z; answer = Ended f }) m [] (tickOutcome (stateOf s m) t)
-unfolding tickOutcome answerOf
-gives-ticked s t f h w p z q m =
+    → (m : Memory) → Gives s (changedBy s t (Ends f)) m [] (tickOutcome (stateOf s m) t)
+unfolding numbersBy answerBy tickOutcome answerOf
+gives-ticked s t f h m =
     record {
-      next = ap (λ (y : Server). stateOf y m) (q ∙ ap (atTime t) p) ∙ state-ticked t f s m (h m);
+      next = state-ticked t f s m (h m);
       answer = rw (h m);
       output = refl;
       unchanged = λ y e. absurd (let n : _≡_ {A = ℕ} 0 1 = cc in omega arith);

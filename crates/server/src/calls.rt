@@ -1,7 +1,7 @@
-// The calls that need no octets: open, close, tick.
-use crate::answer::Answer;
+// The calls that need no octets: open, close, tick. Of each what it changes is told alone, and then with all the numbers.
 use crate::answer::Outcome;
-use crate::answer::refused;
+use crate::change::Change;
+use crate::change::changed;
 use crate::checks::Brought;
 use crate::checks::Checked;
 use crate::checks::Given;
@@ -9,34 +9,27 @@ use crate::checks::check;
 use crate::places::Vacant;
 use crate::places::lowest_free;
 use crate::state::Server;
-use crate::state::at_time;
-use crate::state::opened;
-use crate::state::replaced;
-use crate::state::vacant;
 use crate::ticking::due;
-use crate::ticking::swept;
 use service::Refusal;
 use service::SessionNumber;
 ghost use mathlib.Core.List.{[]};
 ghost use Rattle.service.specs.Call.{openOutcome, opens, closes, ticks};
 ghost use Rattle.server.specs.Memory.{Memory, stateOf};
 ghost use Rattle.server.specs.Answers.{Gives, Serves};
+ghost use Rattle.server.specs.Changes.{changedBy};
 
 // After the checks.
-fn open_lowest(server: Server, time: u64) -> Outcome
-    ensures { λ r. ⌜ ((m : Memory) → Gives server r m [] (openOutcome (stateOf server m) time)) ⌝ }
+fn open_lowest(server: Server, time: u64) -> Change
+    ensures { λ r. ⌜ ((m : Memory) → Gives server (changedBy server time r) m [] (openOutcome (stateOf server m) time)) ⌝ }
 {
-    let Vacant::At(i) = lowest_free(server) else {
-        return refused(server, Refusal::AllOpen);
-    };
-    Outcome {
-        server: replaced(server, time, i, opened(time)),
-        answer: Answer::Opened(SessionNumber(i)),
+    match lowest_free(server) {
+        Vacant::At(i) => Change::Opens(i),
+        Vacant::Nowhere => Change::Refuses(Refusal::AllOpen),
     }
 }
 
-pub fn open(server: Server, time: u64) -> Outcome
-    ensures { λ r. ⌜ ((m : Memory) → Serves server m (opens time) r m []) ⌝ }
+pub fn open_change(server: Server, time: u64) -> Change
+    ensures { λ r. ⌜ ((m : Memory) → Serves server m (opens time) (changedBy server time r) m []) ⌝ }
 {
     let b = Brought {
         output: Given::Absent,
@@ -45,13 +38,13 @@ pub fn open(server: Server, time: u64) -> Outcome
         message: Given::Absent,
     };
     match check(server, b) {
-        Checked::Refuse(why) => refused(server, why),
+        Checked::Refuse(why) => Change::Refuses(why),
         Checked::Pass => open_lowest(server, time),
     }
 }
 
-pub fn close(server: Server, time: u64, session: SessionNumber) -> Outcome
-    ensures { λ r. ⌜ ((m : Memory) → Serves server m (closes time (session .0)) r m []) ⌝ }
+pub fn close_change(server: Server, time: u64, session: SessionNumber) -> Change
+    ensures { λ r. ⌜ ((m : Memory) → Serves server m (closes time (session .0)) (changedBy server time r) m []) ⌝ }
 {
     let i = session.0;
     let b = Brought {
@@ -61,16 +54,13 @@ pub fn close(server: Server, time: u64, session: SessionNumber) -> Outcome
         message: Given::Absent,
     };
     match check(server, b) {
-        Checked::Refuse(why) => refused(server, why),
-        Checked::Pass => Outcome {
-            server: replaced(server, time, i, vacant()),
-            answer: Answer::Done,
-        },
+        Checked::Refuse(why) => Change::Refuses(why),
+        Checked::Pass => Change::Closes(i),
     }
 }
 
-pub fn tick(server: Server, time: u64) -> Outcome
-    ensures { λ r. ⌜ ((m : Memory) → Serves server m (ticks time) r m []) ⌝ }
+pub fn tick_change(server: Server, time: u64) -> Change
+    ensures { λ r. ⌜ ((m : Memory) → Serves server m (ticks time) (changedBy server time r) m []) ⌝ }
 {
     let b = Brought {
         output: Given::Absent,
@@ -79,13 +69,25 @@ pub fn tick(server: Server, time: u64) -> Outcome
         message: Given::Absent,
     };
     match check(server, b) {
-        Checked::Refuse(why) => refused(server, why),
-        Checked::Pass => {
-            let flags = due(server, time);
-            Outcome {
-                server: at_time(swept(server, flags), time),
-                answer: Answer::Ended(flags),
-            }
-        }
+        Checked::Refuse(why) => Change::Refuses(why),
+        Checked::Pass => Change::Ends(due(server, time)),
     }
+}
+
+pub fn open(server: Server, time: u64) -> Outcome
+    ensures { λ r. ⌜ ((m : Memory) → Serves server m (opens time) r m []) ⌝ }
+{
+    changed(server, time, open_change(server, time))
+}
+
+pub fn close(server: Server, time: u64, session: SessionNumber) -> Outcome
+    ensures { λ r. ⌜ ((m : Memory) → Serves server m (closes time (session .0)) r m []) ⌝ }
+{
+    changed(server, time, close_change(server, time, session))
+}
+
+pub fn tick(server: Server, time: u64) -> Outcome
+    ensures { λ r. ⌜ ((m : Memory) → Serves server m (ticks time) r m []) ⌝ }
+{
+    changed(server, time, tick_change(server, time))
 }

@@ -1,6 +1,7 @@
 // The server: its numbers, the checks that calls share, and the calls.
 mod answer;
 mod calls;
+mod change;
 mod checks;
 mod delivery;
 mod number;
@@ -17,8 +18,13 @@ pub use answer::Flags;
 pub use answer::Heard;
 pub use answer::Outcome;
 pub use calls::close;
+pub use calls::close_change;
 pub use calls::open;
+pub use calls::open_change;
 pub use calls::tick;
+pub use calls::tick_change;
+pub use change::Change;
+pub use change::change_answer;
 pub use delivery::hear;
 pub use delivery::message;
 pub use number::LAST_ACCEPTED;
@@ -33,4 +39,5 @@ pub use state::Context;
 pub use state::SESSIONS;
 pub use state::Server;
 pub use state::Session;
+pub use state::opened;
 pub use state::vacant;

@@ -15,7 +15,13 @@ use Rattle.wire.proofs.Writes.{sets-out}
 use Rattle.service.specs.State.{maxSessions}
 use Rattle.server.specs.declared.state.Session.{Session}
 use Rattle.server.specs.declared.state.Server.{Server}
-use Rattle.server.specs.Numbers.{sessionAt, putSession, atTime}
+use Rattle.service.specs.declared.refusal.Refusal.{Refusal}
+use Rattle.server.specs.declared.answer.Flags.{Flags}
+use Rattle.server.specs.declared.change.Change.{Change}
+use Rattle.server.specs.declared.change.Change.the-variants.{Opens, Closes, Ends, Refuses}
+use Rattle.server.specs.Numbers.{vacancy, newcomer, keptOf, sessionAt, putSession, atTime, sweptBy}
+use Rattle.server.specs.Changes.{numbersBy}
+use Rattle.server.proofs.States.{put-past}
 use Rattle.weavemitten.specs.Words.{
   truth,
   flag,
@@ -29,6 +35,8 @@ use Rattle.weavemitten.specs.Words.{
   Stored,
   sessionSaved,
   SavedSession,
+  endedAt,
+  SavedChange,
   Saved,
 }
 
@@ -210,3 +218,51 @@ session-at w (suc zero) h = refl
 session-at w (suc (suc zero)) h = refl
 session-at w (suc (suc (suc zero))) h = refl
 session-at w (suc (suc (suc (suc i)))) h = absurd (omega arith)
+
+-- ---- the sessions that a tick aborts, and those that it does not
+
+put-same : (i : ℕ) (s : Server) → putSession i (sessionAt i s) s ≡ s
+unfolding putSession sessionAt
+put-same zero s = refl
+put-same (suc zero) s = refl
+put-same (suc (suc zero)) s = refl
+put-same (suc (suc (suc zero))) s = refl
+put-same (suc (suc (suc (suc i)))) s = refl
+
+module _ (t i : ℕ) (x : Session) (s : Server) (ended : Bool) where
+  pub aborted : x ≡ vacancy → ended ≡ true → atTime t (putSession i x s) ≡ endedAt t ended i s
+  unfolding keptOf
+  aborted e f = rw (e, f)
+
+  pub spared : ended ≡ false → atTime t (putSession maxSessions x s) ≡ endedAt t ended i s
+  unfolding keptOf
+  spared f = rw (f, put-same i s, ← put-past maxSessions x s (omega arith))
+
+pub swept : (t : ℕ) (f : Flags) (s a b c d : Server) → a ≡ endedAt t (f .f0) 0 s → b ≡ endedAt t (f .f1) 1 a
+    → c ≡ endedAt t (f .f2) 2 b → d ≡ endedAt t (f .f3) 3 c → d ≡ atTime t (sweptBy f s)
+unfolding sessionAt putSession atTime sweptBy
+swept t f s a b c d p q r u = rw (u, r, q, p)
+
+-- ---- a change
+
+module _ (w w′ : List ℕ) (t : ℕ) (k : Change) where
+  made : ((x : Refusal) → k ≡ Refuses x → ⊥) → serverOf w′ ≡ numbersBy t k (serverOf w) → SavedChange t k w w′
+  made h e = record { server = e; unchanged = λ x p. absurd (h x p) }
+
+  pub opened-saved : (i : ℕ) → k ≡ Opens i → (x : Session) → x ≡ newcomer t → SavedSession t i x w w′ → SavedChange t k w w′
+  unfolding numbersBy
+  opened-saved i e x f h =
+      made (λ y p. let q : _≡_ {A = ℕ} 0 1 = cc in omega arith) (h .server ∙ rw (f, e))
+
+  pub closed-saved : (i : ℕ) → k ≡ Closes i → (x : Session) → x ≡ vacancy → SavedSession t i x w w′ → SavedChange t k w w′
+  unfolding numbersBy
+  closed-saved i e x f h =
+      made (λ y p. let q : _≡_ {A = ℕ} 0 1 = cc in omega arith) (h .server ∙ rw (f, e))
+
+  pub ended-saved : (f : Flags) → k ≡ Ends f → serverOf w′ ≡ atTime t (sweptBy f (serverOf w)) → SavedChange t k w w′
+  unfolding numbersBy
+  ended-saved f e h = made (λ y p. let q : _≡_ {A = ℕ} 0 1 = cc in omega arith) (h ∙ rw e)
+
+pub refused-saved : (w : List ℕ) (t : ℕ) (k : Change) (x : Refusal) → k ≡ Refuses x → SavedChange t k w w
+unfolding numbersBy
+refused-saved w t k x e = record { server = rw e; unchanged = λ y p. refl }

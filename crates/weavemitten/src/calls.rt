@@ -1,12 +1,15 @@
 // The calls of the service for a C host: each reads the server's numbers from the lent words, calls the server, and keeps
-// what it gave; a message those of its session alone. No answer is 0, and the calls take any words and any octets.
+// what it gave: a batch all numbers, the others the time and those of the sessions that they change. No answer is 0, and the
+// calls take any words and any octets.
 use crate::values::Values;
 use crate::values::put;
 use crate::words::Words;
 use crate::words::load;
 use crate::words::load_context;
 use crate::words::save;
+use crate::words::save_change;
 use crate::words::save_session;
+use server::Change;
 use server::Heard;
 use server::LAST_ACCEPTED;
 use server::Name;
@@ -14,17 +17,19 @@ use server::Outcome;
 use server::Started;
 use server::answer_number;
 use server::batch;
-use server::close;
+use server::change_answer;
+use server::close_change;
 use server::hear;
-use server::open;
+use server::open_change;
 use server::refusal_number;
 use server::start;
-use server::tick;
+use server::tick_change;
 use service::SessionNumber;
 ghost use mathlib.Core.List.{[]};
 ghost use Rattle.service.specs.Call.{Bytes, outcome, opens, closes, receives, edits, ticks};
 ghost use Rattle.server.specs.Memory.{Memory, memoryOf};
 ghost use Rattle.server.specs.Answers.{heardIn};
+ghost use Rattle.server.specs.Changes.{changedBy};
 ghost use Rattle.weavemitten.specs.Words.{serverOf};
 ghost use Rattle.weavemitten.specs.Calls.{heldBy, Keeps, Begins, Returns, ReturnsWith, ReturnsOn};
 
@@ -54,6 +59,14 @@ fn keep_session(words: &mut Words, t: u64, i: u64, heard: Heard) -> u32
     told
 }
 
+// Of a change the time and the words of its sessions are kept, unless it is refused.
+fn keep_change(words: &mut Words, t: u64, change: Change) -> u32
+    ensures { λ r. ⌜ Keeps (now (words .entry)) (now (words .exit)) (changedBy (serverOf (now (words .entry))) t change) r ⌝ }
+{
+    save_change(words, t, change);
+    answer_number(change_answer(change))
+}
+
 #[no_mangle]
 pub extern "C" fn weavemitten_call_start(words: &mut Words, octets: &mut Name, zone: &[u8]) -> u32
     ensures { λ r. ⌜ Begins (now (zone .entry)) (now (words .entry)) (now (words .exit)) (now (octets .entry)) (now (octets .exit)) r ⌝ }
@@ -71,18 +84,17 @@ pub extern "C" fn weavemitten_call_start(words: &mut Words, octets: &mut Name, z
 pub extern "C" fn weavemitten_call_open(words: &mut Words, time: u64, values: &mut Values) -> u32
     ensures { λ r. ⌜ ((m : Memory) → ReturnsWith (now (values .exit)) (now (words .entry)) (now (words .exit)) m [] r (outcome (heldBy (now (words .entry)) m) (opens time))) ⌝ }
 {
-    let outcome = open(load(words), time);
-    let answer = outcome.answer;
-    put(values, answer);
-    keep(words, outcome)
+    let change = open_change(load(words), time);
+    put(values, change_answer(change));
+    keep_change(words, time, change)
 }
 
 #[no_mangle]
 pub extern "C" fn weavemitten_call_close(words: &mut Words, time: u64, session: u64) -> u32
     ensures { λ r. ⌜ ((m : Memory) → Returns (now (words .entry)) (now (words .exit)) m [] r (outcome (heldBy (now (words .entry)) m) (closes time session))) ⌝ }
 {
-    let outcome = close(load(words), time, SessionNumber(session));
-    keep(words, outcome)
+    let change = close_change(load(words), time, SessionNumber(session));
+    keep_change(words, time, change)
 }
 
 #[no_mangle]
@@ -164,8 +176,7 @@ pub extern "C" fn weavemitten_call_batch(
 pub extern "C" fn weavemitten_call_tick(words: &mut Words, time: u64, values: &mut Values) -> u32
     ensures { λ r. ⌜ ((m : Memory) → ReturnsWith (now (values .exit)) (now (words .entry)) (now (words .exit)) m [] r (outcome (heldBy (now (words .entry)) m) (ticks time))) ⌝ }
 {
-    let outcome = tick(load(words), time);
-    let answer = outcome.answer;
-    put(values, answer);
-    keep(words, outcome)
+    let change = tick_change(load(words), time);
+    put(values, change_answer(change));
+    keep_change(words, time, change)
 }

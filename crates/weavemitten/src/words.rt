@@ -1,16 +1,19 @@
 // A server's numbers in the words that a C host lends, which any words are.
+use server::Change;
 use server::Context;
+use server::Flags;
 use server::SESSIONS;
 use server::Server;
 use server::Session;
+use server::opened;
 use server::vacant;
 use session::Clocks;
 ghost use Prim.Native.Nat.{_+_, _<_, _≤_};
 ghost use mathlib.Core.Path.{_≡_};
 ghost use lib.ListN.{length};
 ghost use Rattle.service.specs.State.{maxSessions};
-ghost use Rattle.server.specs.Numbers.{sessionAt, contextOf};
-ghost use Rattle.weavemitten.specs.Words.{flag, timeout, placeOf, sessionIn, serverOf, Six, Saved, Stored, SavedSession};
+ghost use Rattle.server.specs.Numbers.{sessionAt, contextOf, atTime, sweptBy};
+ghost use Rattle.weavemitten.specs.Words.{flag, timeout, placeOf, sessionIn, serverOf, Six, Saved, Stored, SavedSession, endedAt, SavedChange};
 
 pub const WORDS: usize = 28;
 
@@ -202,9 +205,42 @@ fn replace_session(words: &mut [u64], t: u64, i: u64, x: Session)
     store_session(words, place_of(i), x);
 }
 
-// The time and one session's words alone: what a message changes.
+// The time and one session's words alone: what a message, an open or a close changes.
 pub fn save_session(words: &mut Words, t: u64, i: u64, x: Session)
     ensures { λ _. ⌜ SavedSession t i x (now (words .entry)) (now (words .exit)) ⌝ }
 {
     replace_session(words, t, i, x);
+}
+
+// The time, and the words of a session that is aborted; of another none, as of one past the last.
+fn end_session(words: &mut Words, t: u64, ended: bool, i: u64)
+    ensures { λ _. ⌜ serverOf (now (words .exit)) ≡ endedAt t ended i (serverOf (now (words .entry))) ⌝ }
+{
+    let x = vacant();
+    if ended {
+        save_session(words, t, i, x);
+    } else {
+        save_session(words, t, SESSIONS, x);
+    }
+}
+
+fn end_sessions(words: &mut Words, t: u64, flags: Flags)
+    ensures { λ _. ⌜ serverOf (now (words .exit)) ≡ atTime t (sweptBy flags (serverOf (now (words .entry)))) ⌝ }
+{
+    end_session(words, t, flags.f0, 0);
+    end_session(words, t, flags.f1, 1);
+    end_session(words, t, flags.f2, 2);
+    end_session(words, t, flags.f3, 3);
+}
+
+// The words that a change at a time leaves.
+pub fn save_change(words: &mut Words, t: u64, change: Change)
+    ensures { λ _. ⌜ SavedChange t change (now (words .entry)) (now (words .exit)) ⌝ }
+{
+    match change {
+        Change::Opens(i) => save_session(words, t, i, opened(t)),
+        Change::Closes(i) => save_session(words, t, i, vacant()),
+        Change::Ends(flags) => end_sessions(words, t, flags),
+        Change::Refuses(_) => {}
+    }
 }

@@ -5,11 +5,10 @@ use Rattle.server.proofs.calls.open_lowest.Statement.{statement}
 use Rattle.server.proofs.calls.open_lowest.Tie as tie
 
 returns : tie.Need-returns
-returns c = gives-all-open _ (c .before .before .before .before .args .time) _ (c .before .before .before .lowest-free .ensures) (c .before .enum-told .given .1) _ (c .refused .ensures)
+returns c = gives-opened _ (c .before .before .before .before .args .time) _ (c .before .before .before .lowest-free .ensures) _ (c .before .i .given .1)
 
 returns-2 : tie.Need-returns-2
-returns-2 c =
-    gives-opened _ (c .before .before .before .before .before .before .args .time) _ (c .before .before .before .before .before .lowest-free .ensures) _ (c .before .before .before .i .given .1) _ (c .before .opened .ensures) _ (c .replaced .ensures)
+returns-2 c = gives-all-open _ (c .before .before .before .args .time) _ (c .before .before .lowest-free .ensures) (c .enum-told .given .1)
 
 pub open-lowest-spec : {M : Type 1} → statement M
 open-lowest-spec =
@@ -18,8 +17,5 @@ open-lowest-spec =
     (λ c κs. search needs)
     (λ c. search needs)
     (λ c. search needs)
-    (λ c κs. search needs)
     returns
-    (λ c κs. search needs)
-    (λ c κs. search needs)
     returns-2)

@@ -1,7 +1,6 @@
--- `weavemitten::calls::weavemitten_call_close` meets its contract: what the server gives is kept. Assumes nothing.
-use mathlib.Core.List.{[]}
+-- `weavemitten::calls::weavemitten_call_close` meets its contract: what the server changes is kept. Assumes nothing.
 use Rattle.service.specs.Call.{closes}
-use Rattle.weavemitten.proofs.Serving.{returned}
+use Rattle.weavemitten.proofs.Serving.{returned-change}
 use borrow.Author.Needs.{needs}
 use Rattle.weavemitten.proofs.calls.weavemitten_call_close.Statement.{statement}
 use Rattle.weavemitten.proofs.calls.weavemitten_call_close.Tie as tie
@@ -9,7 +8,7 @@ use Rattle.weavemitten.proofs.calls.weavemitten_call_close.Tie as tie
 returns : tie.Need-returns
 returns c m =
     let a = c .before .before .before .before .before .args in
-    returned (a .words .now) _ _ (c .before .before .before .load .ensures) _ _ (c .keep .ensures) m m [] (closes (a .time) (a .session)) (c .before .before .close .ensures m)
+    returned-change (a .words .now) _ _ (c .before .before .before .load .ensures) (a .time) _ _ (c .keep-change .ensures) m (closes (a .time) (a .session)) (c .before .before .close-change .ensures m)
 
 pub weavemitten-call-close-spec : {M : Type 1} → statement M
 weavemitten-call-close-spec =

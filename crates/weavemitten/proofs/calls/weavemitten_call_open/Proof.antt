@@ -1,20 +1,20 @@
--- `weavemitten::calls::weavemitten_call_open` meets its contract: what the server gives is kept. Assumes nothing.
-use mathlib.Core.List.{[]}
+-- `weavemitten::calls::weavemitten_call_open` meets its contract: what the server changes is kept. Assumes nothing.
 use Rattle.service.specs.Call.{opens}
-use Rattle.weavemitten.proofs.Serving.{returned-with}
+use Rattle.weavemitten.proofs.Serving.{returned-change-with}
 use borrow.Author.Needs.{needs}
 use Rattle.weavemitten.proofs.calls.weavemitten_call_open.Statement.{statement}
 use Rattle.weavemitten.proofs.calls.weavemitten_call_open.Tie as tie
 
 returns : tie.Need-returns
 returns c m =
-    let a = c .before .before .before .before .before .before .before .args in
-    returned-with (a .words .now) _ _ (c .before .before .before .before .before .load .ensures) _ _ (c .keep .ensures) m m [] (opens (a .time)) (c .before .before .before .before .«open» .ensures m) _ (c .before .before .put .ensures)
+    let a = c .before .before .before .before .before .before .before .before .args in
+    returned-change-with (a .words .now) _ _ (c .before .before .before .before .before .before .load .ensures) (a .time) _ _ (c .keep-change .ensures) m (opens (a .time)) (c .before .before .before .before .before .open-change .ensures m) _ (c .before .before .before .change-answer .ensures) _ (c .before .before .put .ensures)
 
 pub weavemitten-call-open-spec : {M : Type 1} → statement M
 weavemitten-call-open-spec =
     tie.close
     (tie.spec
+    (λ c κs. search needs)
     (λ c κs. search needs)
     (λ c κs. search needs)
     (λ c κs. search needs)
