@@ -94,7 +94,7 @@ pub record SavedSession (t i : ℕ) (x : Session) (w w′ : List ℕ) : Type 0 w
   pub words : w′ ≡ sessionSaved t i x w
   pub server : serverOf w′ ≡ atTime t (putSession i x (serverOf w))
 
--- A tick at a time that aborts session i, or does not.
+-- The numbers after a tick at a time that aborts session i, or does not.
 abbrev pub endedAt : ℕ → Bool → ℕ → Server → Server
 endedAt t ended i s = atTime t (putSession i (keptOf ended (sessionAt i s)) s)
 

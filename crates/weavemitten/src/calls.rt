@@ -59,7 +59,7 @@ fn keep_session(words: &mut Words, t: u64, i: u64, heard: Heard) -> u32
     told
 }
 
-// Of what else is decided the time and the words of the sessions that change are kept, unless it is refused.
+// Of a decision the time and the words of the sessions that change are kept, unless it is a refusal.
 fn keep_decision(words: &mut Words, t: u64, decision: Decision) -> u32
     ensures { λ r. ⌜ Keeps (now (words .entry)) (now (words .exit)) (decidedBy (serverOf (now (words .entry))) t decision) r ⌝ }
 {

@@ -214,7 +214,7 @@ pub fn save_session(words: &mut Words, t: u64, i: u64, x: Session)
     replace_session(words, t, i, x);
 }
 
-// The time, and the words of a session that is aborted; of another none, as of one past the last.
+// The time, and a session's words where it is aborted: past the last session there are none to write.
 fn end_session(words: &mut Words, t: u64, ended: bool, i: u64)
     ensures { λ _. ⌜ serverOf (now (words .exit)) ≡ endedAt t ended i (serverOf (now (words .entry))) ⌝ }
 {
@@ -226,6 +226,7 @@ fn end_session(words: &mut Words, t: u64, ended: bool, i: u64)
     }
 }
 
+// The time, and the words of the sessions that are aborted.
 fn end_sessions(words: &mut Words, t: u64, flags: Flags)
     ensures { λ _. ⌜ serverOf (now (words .exit)) ≡ atTime t (sweptBy flags (serverOf (now (words .entry)))) ⌝ }
 {
@@ -246,6 +247,7 @@ fn save_change(words: &mut Words, t: u64, change: Change)
     }
 }
 
+// A refusal leaves them all.
 pub fn save_decision(words: &mut Words, t: u64, decision: Decision)
     ensures { λ _. ⌜ SavedDecision t decision (now (words .entry)) (now (words .exit)) ⌝ }
 {
