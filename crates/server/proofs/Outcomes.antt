@@ -31,15 +31,16 @@ use Rattle.service.specs.declared.refusal.Refusal.the-variants.{AllOpen}
 use Rattle.server.specs.declared.state.Server.{Server}
 use Rattle.server.specs.declared.answer.Flags.{Flags}
 use Rattle.server.specs.declared.answer.Outcome.{Outcome}
-use Rattle.server.specs.declared.change.Change.{Change}
-use Rattle.server.specs.declared.change.Change.the-variants.{Opens, Closes, Ends, Refuses}
+use Rattle.server.specs.declared.change.Change.the-variants.{Opens, Closes, Ends}
+use Rattle.server.specs.declared.change.Decision.{Decision}
+use Rattle.server.specs.declared.change.Decision.the-variants.{Takes, Refuses}
 use Rattle.server.specs.declared.checks.Checked.{Checked}
 use Rattle.server.specs.declared.checks.Checked.the-variants.{Pass, Refuse}
 use Rattle.server.specs.declared.places.Vacant.{Vacant}
 use Rattle.server.specs.declared.places.Vacant.the-variants.{At, Nowhere}
 use Rattle.server.specs.Memory.{Memory, areaAt, stateOf}
 use Rattle.server.specs.Numbers.{vacancy, newcomer}
-use Rattle.server.specs.Changes.{answerBy, numbersBy, changedBy}
+use Rattle.server.specs.Changes.{changeAnswer, changeNumbers, answerBy, numbersBy, decidedBy}
 use Rattle.server.specs.Checks.{refusedBy, vacantOf}
 use Rattle.server.specs.Answers.{Gives, Serves, answerOf, flagsOf, refusing}
 use Rattle.server.proofs.States.{state-put, slot-vacancy, slot-newcomer}
@@ -85,26 +86,26 @@ module _ (s : Server) (call : Call) (k : Checked) (h : (m : Memory) → refusedB
       → Gives s r m′ o (passed (stateOf s m) call) → Gives s r m′ o (outcome (stateOf s m) call)
   gives-passed e r m m′ o g = rw (outcome-passed (stateOf s m) call (sym (h m) ∙ ap refusedBy e)) g
 
--- ---- a change is refused, or made
+-- ---- a decision
 
-pub gives-refused-change : (s : Server) (call : Call) (k : Checked) → ((m : Memory) → refusedBy k ≡ refusalOf (stateOf s m) (brought call))
-    → (x : Refusal) → k ≡ Refuse x → (t : ℕ) (m : Memory) → Gives s (changedBy s t (Refuses x)) m (lent call) (outcome (stateOf s m) call)
+pub gives-refusal : (s : Server) (call : Call) (k : Checked) → ((m : Memory) → refusedBy k ≡ refusalOf (stateOf s m) (brought call))
+    → (x : Refusal) → k ≡ Refuse x → (t : ℕ) (m : Memory) → Gives s (decidedBy s t (Refuses x)) m (lent call) (outcome (stateOf s m) call)
 unfolding numbersBy answerBy
-gives-refused-change s call k h x e t m = gives-refused s call k h x e (changedBy s t (Refuses x)) refl m
+gives-refusal s call k h x e t m = gives-refused s call k h x e (decidedBy s t (Refuses x)) refl m
 
-pub serves-changed : (s : Server) (call : Call) (t : ℕ) (k : Change) (r : Outcome) → r ≡ changedBy s t k
-    → ((m : Memory) → Serves s m call (changedBy s t k) m []) → (m : Memory) → Serves s m call r m []
-serves-changed s call t k r e h m = rw e (h m)
+pub serves-decided : (s : Server) (call : Call) (t : ℕ) (k : Decision) (r : Outcome) → r ≡ decidedBy s t k
+    → ((m : Memory) → Serves s m call (decidedBy s t k) m []) → (m : Memory) → Serves s m call r m []
+serves-decided s call t k r e h m = rw e (h m)
 
 -- ---- open
 
 module _ (s : Server) (t : ℕ) (v : Vacant) (h : (m : Memory) → vacantOf v ≡ lowestFree (stateOf s m .slots)) where
-  pub gives-all-open : v ≡ Nowhere → (m : Memory) → Gives s (changedBy s t (Refuses AllOpen)) m [] (openOutcome (stateOf s m) t)
+  pub gives-all-open : v ≡ Nowhere → (m : Memory) → Gives s (decidedBy s t (Refuses AllOpen)) m [] (openOutcome (stateOf s m) t)
   unfolding numbersBy answerBy
   gives-all-open e m = rw (open-none (stateOf s m) t (sym (h m) ∙ ap vacantOf e)) (gives-refusing s AllOpen m [])
 
-  pub gives-opened : (i : ℕ) → v ≡ At i → (m : Memory) → Gives s (changedBy s t (Opens i)) m [] (openOutcome (stateOf s m) t)
-  unfolding numbersBy answerBy answerOf
+  pub gives-opened : (i : ℕ) → v ≡ At i → (m : Memory) → Gives s (decidedBy s t (Takes (Opens i))) m [] (openOutcome (stateOf s m) t)
+  unfolding numbersBy answerBy changeNumbers changeAnswer answerOf
   gives-opened i e m =
       rw (open-some (stateOf s m) t i (sym (h m) ∙ ap vacantOf e))
       (record {
@@ -118,8 +119,8 @@ module _ (s : Server) (t : ℕ) (v : Vacant) (h : (m : Memory) → vacantOf v �
 
 -- ---- close
 
-pub gives-closed : (s : Server) (t i : ℕ) (m : Memory) → Gives s (changedBy s t (Closes i)) m [] (closeOutcome (stateOf s m) t i)
-unfolding numbersBy answerBy closeOutcome answerOf
+pub gives-closed : (s : Server) (t i : ℕ) (m : Memory) → Gives s (decidedBy s t (Takes (Closes i))) m [] (closeOutcome (stateOf s m) t i)
+unfolding numbersBy answerBy changeNumbers changeAnswer closeOutcome answerOf
 gives-closed s t i m =
     record {
       next =
@@ -133,8 +134,8 @@ gives-closed s t i m =
 -- ---- tick
 
 pub gives-ticked : (s : Server) (t : ℕ) (f : Flags) → ((m : Memory) → flagsOf f ≡ map (endsAt t) (stateOf s m .slots))
-    → (m : Memory) → Gives s (changedBy s t (Ends f)) m [] (tickOutcome (stateOf s m) t)
-unfolding numbersBy answerBy tickOutcome answerOf
+    → (m : Memory) → Gives s (decidedBy s t (Takes (Ends f))) m [] (tickOutcome (stateOf s m) t)
+unfolding numbersBy answerBy changeNumbers changeAnswer tickOutcome answerOf
 gives-ticked s t f h m =
     record {
       next = state-ticked t f s m (h m);

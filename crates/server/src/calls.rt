@@ -1,7 +1,8 @@
-// The calls that need no octets: open, close, tick. Of each what it changes is told alone, and then with all the numbers.
+// The calls that need no octets: open, close, tick. Of each what it decides is told alone, and then with all the numbers.
 use crate::answer::Outcome;
 use crate::change::Change;
-use crate::change::changed;
+use crate::change::Decision;
+use crate::change::decided;
 use crate::checks::Brought;
 use crate::checks::Checked;
 use crate::checks::Given;
@@ -16,20 +17,20 @@ ghost use mathlib.Core.List.{[]};
 ghost use Rattle.service.specs.Call.{openOutcome, opens, closes, ticks};
 ghost use Rattle.server.specs.Memory.{Memory, stateOf};
 ghost use Rattle.server.specs.Answers.{Gives, Serves};
-ghost use Rattle.server.specs.Changes.{changedBy};
+ghost use Rattle.server.specs.Changes.{decidedBy};
 
 // After the checks.
-fn open_lowest(server: Server, time: u64) -> Change
-    ensures { λ r. ⌜ ((m : Memory) → Gives server (changedBy server time r) m [] (openOutcome (stateOf server m) time)) ⌝ }
+fn open_lowest(server: Server, time: u64) -> Decision
+    ensures { λ r. ⌜ ((m : Memory) → Gives server (decidedBy server time r) m [] (openOutcome (stateOf server m) time)) ⌝ }
 {
     match lowest_free(server) {
-        Vacant::At(i) => Change::Opens(i),
-        Vacant::Nowhere => Change::Refuses(Refusal::AllOpen),
+        Vacant::At(i) => Decision::Takes(Change::Opens(i)),
+        Vacant::Nowhere => Decision::Refuses(Refusal::AllOpen),
     }
 }
 
-pub fn open_change(server: Server, time: u64) -> Change
-    ensures { λ r. ⌜ ((m : Memory) → Serves server m (opens time) (changedBy server time r) m []) ⌝ }
+pub fn decide_open(server: Server, time: u64) -> Decision
+    ensures { λ r. ⌜ ((m : Memory) → Serves server m (opens time) (decidedBy server time r) m []) ⌝ }
 {
     let b = Brought {
         output: Given::Absent,
@@ -38,13 +39,13 @@ pub fn open_change(server: Server, time: u64) -> Change
         message: Given::Absent,
     };
     match check(server, b) {
-        Checked::Refuse(why) => Change::Refuses(why),
+        Checked::Refuse(why) => Decision::Refuses(why),
         Checked::Pass => open_lowest(server, time),
     }
 }
 
-pub fn close_change(server: Server, time: u64, session: SessionNumber) -> Change
-    ensures { λ r. ⌜ ((m : Memory) → Serves server m (closes time (session .0)) (changedBy server time r) m []) ⌝ }
+pub fn decide_close(server: Server, time: u64, session: SessionNumber) -> Decision
+    ensures { λ r. ⌜ ((m : Memory) → Serves server m (closes time (session .0)) (decidedBy server time r) m []) ⌝ }
 {
     let i = session.0;
     let b = Brought {
@@ -54,13 +55,13 @@ pub fn close_change(server: Server, time: u64, session: SessionNumber) -> Change
         message: Given::Absent,
     };
     match check(server, b) {
-        Checked::Refuse(why) => Change::Refuses(why),
-        Checked::Pass => Change::Closes(i),
+        Checked::Refuse(why) => Decision::Refuses(why),
+        Checked::Pass => Decision::Takes(Change::Closes(i)),
     }
 }
 
-pub fn tick_change(server: Server, time: u64) -> Change
-    ensures { λ r. ⌜ ((m : Memory) → Serves server m (ticks time) (changedBy server time r) m []) ⌝ }
+pub fn decide_tick(server: Server, time: u64) -> Decision
+    ensures { λ r. ⌜ ((m : Memory) → Serves server m (ticks time) (decidedBy server time r) m []) ⌝ }
 {
     let b = Brought {
         output: Given::Absent,
@@ -69,25 +70,25 @@ pub fn tick_change(server: Server, time: u64) -> Change
         message: Given::Absent,
     };
     match check(server, b) {
-        Checked::Refuse(why) => Change::Refuses(why),
-        Checked::Pass => Change::Ends(due(server, time)),
+        Checked::Refuse(why) => Decision::Refuses(why),
+        Checked::Pass => Decision::Takes(Change::Ends(due(server, time))),
     }
 }
 
 pub fn open(server: Server, time: u64) -> Outcome
     ensures { λ r. ⌜ ((m : Memory) → Serves server m (opens time) r m []) ⌝ }
 {
-    changed(server, time, open_change(server, time))
+    decided(server, time, decide_open(server, time))
 }
 
 pub fn close(server: Server, time: u64, session: SessionNumber) -> Outcome
     ensures { λ r. ⌜ ((m : Memory) → Serves server m (closes time (session .0)) r m []) ⌝ }
 {
-    changed(server, time, close_change(server, time, session))
+    decided(server, time, decide_close(server, time, session))
 }
 
 pub fn tick(server: Server, time: u64) -> Outcome
     ensures { λ r. ⌜ ((m : Memory) → Serves server m (ticks time) r m []) ⌝ }
 {
-    changed(server, time, tick_change(server, time))
+    decided(server, time, decide_tick(server, time))
 }

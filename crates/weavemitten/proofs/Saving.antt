@@ -18,9 +18,11 @@ use Rattle.server.specs.declared.state.Server.{Server}
 use Rattle.service.specs.declared.refusal.Refusal.{Refusal}
 use Rattle.server.specs.declared.answer.Flags.{Flags}
 use Rattle.server.specs.declared.change.Change.{Change}
-use Rattle.server.specs.declared.change.Change.the-variants.{Opens, Closes, Ends, Refuses}
+use Rattle.server.specs.declared.change.Change.the-variants.{Opens, Closes}
+use Rattle.server.specs.declared.change.Decision.{Decision}
+use Rattle.server.specs.declared.change.Decision.the-variants.{Takes, Refuses}
 use Rattle.server.specs.Numbers.{vacancy, newcomer, keptOf, sessionAt, putSession, atTime, sweptBy}
-use Rattle.server.specs.Changes.{numbersBy}
+use Rattle.server.specs.Changes.{changeNumbers, numbersBy}
 use Rattle.server.proofs.States.{put-past}
 use Rattle.weavemitten.specs.Words.{
   truth,
@@ -36,7 +38,7 @@ use Rattle.weavemitten.specs.Words.{
   sessionSaved,
   SavedSession,
   endedAt,
-  SavedChange,
+  SavedDecision,
   Saved,
 }
 
@@ -243,26 +245,26 @@ pub swept : (t : ℕ) (f : Flags) (s a b c d : Server) → a ≡ endedAt t (f .f
 unfolding sessionAt putSession atTime sweptBy
 swept t f s a b c d p q r u = rw (u, r, q, p)
 
--- ---- a change
+-- ---- a change or a refusal
 
 module _ (w w′ : List ℕ) (t : ℕ) (k : Change) where
-  made : ((x : Refusal) → k ≡ Refuses x → ⊥) → serverOf w′ ≡ numbersBy t k (serverOf w) → SavedChange t k w w′
-  made h e = record { server = e; unchanged = λ x p. absurd (h x p) }
+  pub opened-saved : (i : ℕ) → k ≡ Opens i → (x : Session) → x ≡ newcomer t → SavedSession t i x w w′ → serverOf w′ ≡ changeNumbers t k (serverOf w)
+  unfolding changeNumbers
+  opened-saved i e x f h = h .server ∙ rw (f, e)
 
-  pub opened-saved : (i : ℕ) → k ≡ Opens i → (x : Session) → x ≡ newcomer t → SavedSession t i x w w′ → SavedChange t k w w′
+  pub closed-saved : (i : ℕ) → k ≡ Closes i → (x : Session) → x ≡ vacancy → SavedSession t i x w w′ → serverOf w′ ≡ changeNumbers t k (serverOf w)
+  unfolding changeNumbers
+  closed-saved i e x f h = h .server ∙ rw (f, e)
+
+module _ (w : List ℕ) (t : ℕ) (d : Decision) where
+  pub taken-saved : (k : Change) → d ≡ Takes k → (w′ : List ℕ) → serverOf w′ ≡ changeNumbers t k (serverOf w) → SavedDecision t d w w′
   unfolding numbersBy
-  opened-saved i e x f h =
-      made (λ y p. let q : _≡_ {A = ℕ} 0 1 = cc in omega arith) (h .server ∙ rw (f, e))
+  taken-saved k e w′ h =
+      record {
+        server = h ∙ rw e;
+        unchanged = λ x p. absurd (let q : _≡_ {A = ℕ} 0 1 = cc in omega arith);
+      }
 
-  pub closed-saved : (i : ℕ) → k ≡ Closes i → (x : Session) → x ≡ vacancy → SavedSession t i x w w′ → SavedChange t k w w′
+  pub refused-saved : (x : Refusal) → d ≡ Refuses x → SavedDecision t d w w
   unfolding numbersBy
-  closed-saved i e x f h =
-      made (λ y p. let q : _≡_ {A = ℕ} 0 1 = cc in omega arith) (h .server ∙ rw (f, e))
-
-  pub ended-saved : (f : Flags) → k ≡ Ends f → serverOf w′ ≡ atTime t (sweptBy f (serverOf w)) → SavedChange t k w w′
-  unfolding numbersBy
-  ended-saved f e h = made (λ y p. let q : _≡_ {A = ℕ} 0 1 = cc in omega arith) (h ∙ rw e)
-
-pub refused-saved : (w : List ℕ) (t : ℕ) (k : Change) (x : Refusal) → k ≡ Refuses x → SavedChange t k w w
-unfolding numbersBy
-refused-saved w t k x e = record { server = rw e; unchanged = λ y p. refl }
+  refused-saved x e = record { server = rw e; unchanged = λ y p. refl }

@@ -18,16 +18,18 @@ use Rattle.server.specs.declared.answer.Answer.{Answer}
 use Rattle.server.specs.declared.answer.Answer.the-variants.{Done, Opened, Ended, Sent, NotOurs, Aborted, Reconfirm, Refused}
 use Rattle.server.specs.declared.answer.Outcome.{Outcome}
 use Rattle.server.specs.declared.change.Change.{Change}
-use Rattle.server.specs.declared.change.Change.the-variants.{Opens, Closes, Ends, Refuses}
+use Rattle.server.specs.declared.change.Change.the-variants.{Opens, Closes, Ends}
+use Rattle.server.specs.declared.change.Decision.{Decision}
+use Rattle.server.specs.declared.change.Decision.the-variants.{Takes, Refuses}
 use Rattle.server.specs.declared.starting.Started.{Started}
 use Rattle.server.specs.declared.starting.Started.the-variants.{Running}
 use Rattle.server.specs.declared.starting.Started.the-variants as Start
 use Rattle.server.specs.Memory.{Memory, memoryOf, stateOf}
 use Rattle.server.specs.Answers.{Gives, Serves, answerOf, lastAccepted, keptBy, heardIn}
-use Rattle.server.specs.Changes.{answerBy, changedBy}
+use Rattle.server.specs.Changes.{changeAnswer, answerBy, decidedBy}
 use Rattle.server.specs.declared.answer.Heard.{Heard}
 use Rattle.server.specs.Starting.{Starts}
-use Rattle.weavemitten.specs.Words.{serverOf, Saved, SavedSession, SavedChange}
+use Rattle.weavemitten.specs.Words.{serverOf, Saved, SavedSession, SavedDecision}
 use Rattle.weavemitten.specs.Values.{valuesOf}
 use Rattle.weavemitten.specs.Calls.{heldBy, Keeps, Returns, ReturnsWith, Begins}
 
@@ -51,24 +53,24 @@ module _ (w : List ℕ) (t i : ℕ) (h : Heard) (r : ℕ) (e : r ≡ answerNumbe
         unchanged = λ k. absurd (omega arith);
       }
 
--- The same of a change, of which the sessions that it touches are kept.
+-- The same of a decision, of which the sessions that change are kept.
 module _ (w w′ : List ℕ) where
-  change-refused : (k : Change) → lastAccepted < answerNumber (answerOf (answerBy k)) → ((x : Refusal) → k ≡ Refuses x → w′ ≡ w) → w′ ≡ w
-  unfolding answerNumber answerOf answerBy
-  change-refused (Opens i) h u = absurd (omega arith)
-  change-refused (Closes i) h u = absurd (omega arith)
-  change-refused (Ends f) h u = absurd (omega arith)
-  change-refused (Refuses x) h u = u x refl
+  decision-refused : (d : Decision) → lastAccepted < answerNumber (answerOf (answerBy d)) → ((x : Refusal) → d ≡ Refuses x → w′ ≡ w) → w′ ≡ w
+  unfolding answerNumber answerOf answerBy changeAnswer
+  decision-refused (Takes (Opens i)) h u = absurd (omega arith)
+  decision-refused (Takes (Closes i)) h u = absurd (omega arith)
+  decision-refused (Takes (Ends f)) h u = absurd (omega arith)
+  decision-refused (Refuses x) h u = u x refl
 
-  pub kept-change : (t : ℕ) (k : Change) → SavedChange t k w w′ → (a : Answer) → a ≡ answerBy k
-      → (r : ℕ) → r ≡ answerNumber (answerOf a) → Keeps w w′ (changedBy (serverOf w) t k) r
-  kept-change t k h a f r e =
-      let g : r ≡ answerNumber (answerOf (answerBy k))
+  pub kept-decision : (t : ℕ) (d : Decision) → SavedDecision t d w w′ → (a : Answer) → a ≡ answerBy d
+      → (r : ℕ) → r ≡ answerNumber (answerOf a) → Keeps w w′ (decidedBy (serverOf w) t d) r
+  kept-decision t d h a f r e =
+      let g : r ≡ answerNumber (answerOf (answerBy d))
       = e ∙ ap (λ (x : Answer). answerNumber (answerOf x)) f in
       record {
         answer = g;
         held = λ p. h .server;
-        unchanged = λ p. change-refused k (omega arith) (h .unchanged);
+        unchanged = λ p. decision-refused d (omega arith) (h .unchanged);
       }
 
 -- ---- a number above 5 is a refusal's
@@ -125,19 +127,19 @@ module _ (w w′ : List ℕ) (s : Server) (e : s ≡ serverOf w) (u : Outcome) (
         values = p ∙ ap valuesOf (rw e at (g .answer));
       }
 
--- The same of a change.
-module _ (w w′ : List ℕ) (s : Server) (e : s ≡ serverOf w) (t : ℕ) (k : Change) (r : ℕ)
-    (h : Keeps w w′ (changedBy (serverOf w) t k) r) (m : Memory) (call : Call) (g : Serves s m call (changedBy s t k) m []) where
-  keeps-change : Keeps w w′ (changedBy s t k) r
-  keeps-change = rw e h
+-- The same of a decision.
+module _ (w w′ : List ℕ) (s : Server) (e : s ≡ serverOf w) (t : ℕ) (d : Decision) (r : ℕ)
+    (h : Keeps w w′ (decidedBy (serverOf w) t d) r) (m : Memory) (call : Call) (g : Serves s m call (decidedBy s t d) m []) where
+  keeps-decision : Keeps w w′ (decidedBy s t d) r
+  keeps-decision = rw e h
 
-  pub returned-change : Returns w w′ m [] r (outcome (heldBy w m) call)
-  returned-change = returned w w′ s e (changedBy s t k) r keeps-change m m [] call g
+  pub returned-decision : Returns w w′ m [] r (outcome (heldBy w m) call)
+  returned-decision = returned w w′ s e (decidedBy s t d) r keeps-decision m m [] call g
 
-  pub returned-change-with : (a : Answer) → a ≡ answerBy k → (v : List ℕ) → v ≡ valuesOf (answerOf a)
+  pub returned-decision-with : (a : Answer) → a ≡ answerBy d → (v : List ℕ) → v ≡ valuesOf (answerOf a)
       → ReturnsWith v w w′ m [] r (outcome (heldBy w m) call)
-  returned-change-with a f v p =
-      returned-with w w′ s e (changedBy s t k) r keeps-change m m [] call g v
+  returned-decision-with a f v p =
+      returned-with w w′ s e (decidedBy s t d) r keeps-decision m m [] call g v
       (p ∙ ap (λ (x : Answer). valuesOf (answerOf x)) f)
 
 -- ---- start

@@ -9,8 +9,8 @@ use lib.Dec.{eqb}
 use Rattle.server.specs.declared.state.Session.{Session}
 use Rattle.server.specs.declared.state.Server.{Server}
 use Rattle.service.specs.declared.refusal.Refusal.{Refusal}
-use Rattle.server.specs.declared.change.Change.{Change}
-use Rattle.server.specs.declared.change.Change.the-variants.{Refuses}
+use Rattle.server.specs.declared.change.Decision.{Decision}
+use Rattle.server.specs.declared.change.Decision.the-variants.{Refuses}
 use Rattle.server.specs.Numbers.{keptOf, sessionAt, putSession, atTime}
 use Rattle.server.specs.Changes.{numbersBy}
 
@@ -94,14 +94,14 @@ pub record SavedSession (t i : ℕ) (x : Session) (w w′ : List ℕ) : Type 0 w
   pub words : w′ ≡ sessionSaved t i x w
   pub server : serverOf w′ ≡ atTime t (putSession i x (serverOf w))
 
--- A tick at a time that aborts session i, or does not.
+-- The numbers after a tick at a time that aborts session i, or does not.
 abbrev pub endedAt : ℕ → Bool → ℕ → Server → Server
 endedAt t ended i s = atTime t (putSession i (keptOf ended (sessionAt i s)) s)
 
--- What is saved of a change at a time: they are read as the server with that change. A refusal leaves the very words.
-pub record SavedChange (t : ℕ) (k : Change) (w w′ : List ℕ) : Type 0 where
-  pub server : serverOf w′ ≡ numbersBy t k (serverOf w)
-  pub unchanged : (x : Refusal) → k ≡ Refuses x → w′ ≡ w
+-- What is saved of a decision at a time: they are read as the server that it leaves. A refusal leaves the very words.
+pub record SavedDecision (t : ℕ) (d : Decision) (w w′ : List ℕ) : Type 0 where
+  pub server : serverOf w′ ≡ numbersBy t d (serverOf w)
+  pub unchanged : (x : Refusal) → d ≡ Refuses x → w′ ≡ w
 
 -- What is saved: the server's words, which are read as that server again.
 pub record Saved (s : Server) (w : List ℕ) : Type 0 where

@@ -7,9 +7,9 @@ use crate::words::Words;
 use crate::words::load;
 use crate::words::load_context;
 use crate::words::save;
-use crate::words::save_change;
+use crate::words::save_decision;
 use crate::words::save_session;
-use server::Change;
+use server::Decision;
 use server::Heard;
 use server::LAST_ACCEPTED;
 use server::Name;
@@ -17,19 +17,19 @@ use server::Outcome;
 use server::Started;
 use server::answer_number;
 use server::batch;
-use server::change_answer;
-use server::close_change;
+use server::decide_close;
+use server::decide_open;
+use server::decide_tick;
+use server::decision_answer;
 use server::hear;
-use server::open_change;
 use server::refusal_number;
 use server::start;
-use server::tick_change;
 use service::SessionNumber;
 ghost use mathlib.Core.List.{[]};
 ghost use Rattle.service.specs.Call.{Bytes, outcome, opens, closes, receives, edits, ticks};
 ghost use Rattle.server.specs.Memory.{Memory, memoryOf};
 ghost use Rattle.server.specs.Answers.{heardIn};
-ghost use Rattle.server.specs.Changes.{changedBy};
+ghost use Rattle.server.specs.Changes.{decidedBy};
 ghost use Rattle.weavemitten.specs.Words.{serverOf};
 ghost use Rattle.weavemitten.specs.Calls.{heldBy, Keeps, Begins, Returns, ReturnsWith, ReturnsOn};
 
@@ -59,12 +59,12 @@ fn keep_session(words: &mut Words, t: u64, i: u64, heard: Heard) -> u32
     told
 }
 
-// Of a change the time and the words of its sessions are kept, unless it is refused.
-fn keep_change(words: &mut Words, t: u64, change: Change) -> u32
-    ensures { λ r. ⌜ Keeps (now (words .entry)) (now (words .exit)) (changedBy (serverOf (now (words .entry))) t change) r ⌝ }
+// Of a decision the time and the words of the sessions that change are kept, unless it is a refusal.
+fn keep_decision(words: &mut Words, t: u64, decision: Decision) -> u32
+    ensures { λ r. ⌜ Keeps (now (words .entry)) (now (words .exit)) (decidedBy (serverOf (now (words .entry))) t decision) r ⌝ }
 {
-    save_change(words, t, change);
-    answer_number(change_answer(change))
+    save_decision(words, t, decision);
+    answer_number(decision_answer(decision))
 }
 
 #[no_mangle]
@@ -84,17 +84,17 @@ pub extern "C" fn weavemitten_call_start(words: &mut Words, octets: &mut Name, z
 pub extern "C" fn weavemitten_call_open(words: &mut Words, time: u64, values: &mut Values) -> u32
     ensures { λ r. ⌜ ((m : Memory) → ReturnsWith (now (values .exit)) (now (words .entry)) (now (words .exit)) m [] r (outcome (heldBy (now (words .entry)) m) (opens time))) ⌝ }
 {
-    let change = open_change(load(words), time);
-    put(values, change_answer(change));
-    keep_change(words, time, change)
+    let decision = decide_open(load(words), time);
+    put(values, decision_answer(decision));
+    keep_decision(words, time, decision)
 }
 
 #[no_mangle]
 pub extern "C" fn weavemitten_call_close(words: &mut Words, time: u64, session: u64) -> u32
     ensures { λ r. ⌜ ((m : Memory) → Returns (now (words .entry)) (now (words .exit)) m [] r (outcome (heldBy (now (words .entry)) m) (closes time session))) ⌝ }
 {
-    let change = close_change(load(words), time, SessionNumber(session));
-    keep_change(words, time, change)
+    let decision = decide_close(load(words), time, SessionNumber(session));
+    keep_decision(words, time, decision)
 }
 
 #[no_mangle]
@@ -176,7 +176,7 @@ pub extern "C" fn weavemitten_call_batch(
 pub extern "C" fn weavemitten_call_tick(words: &mut Words, time: u64, values: &mut Values) -> u32
     ensures { λ r. ⌜ ((m : Memory) → ReturnsWith (now (values .exit)) (now (words .entry)) (now (words .exit)) m [] r (outcome (heldBy (now (words .entry)) m) (ticks time))) ⌝ }
 {
-    let change = tick_change(load(words), time);
-    put(values, change_answer(change));
-    keep_change(words, time, change)
+    let decision = decide_tick(load(words), time);
+    put(values, decision_answer(decision));
+    keep_decision(words, time, decision)
 }

@@ -1,6 +1,7 @@
 // A server's numbers in the words that a C host lends, which any words are.
 use server::Change;
 use server::Context;
+use server::Decision;
 use server::Flags;
 use server::SESSIONS;
 use server::Server;
@@ -13,7 +14,8 @@ ghost use mathlib.Core.Path.{_≡_};
 ghost use lib.ListN.{length};
 ghost use Rattle.service.specs.State.{maxSessions};
 ghost use Rattle.server.specs.Numbers.{sessionAt, contextOf, atTime, sweptBy};
-ghost use Rattle.weavemitten.specs.Words.{flag, timeout, placeOf, sessionIn, serverOf, Six, Saved, Stored, SavedSession, endedAt, SavedChange};
+ghost use Rattle.server.specs.Changes.{changeNumbers};
+ghost use Rattle.weavemitten.specs.Words.{flag, timeout, placeOf, sessionIn, serverOf, Six, Saved, Stored, SavedSession, endedAt, SavedDecision};
 
 pub const WORDS: usize = 28;
 
@@ -212,7 +214,7 @@ pub fn save_session(words: &mut Words, t: u64, i: u64, x: Session)
     replace_session(words, t, i, x);
 }
 
-// The time, and the words of a session that is aborted; of another none, as of one past the last.
+// The time, and a session's words where it is aborted: past the last session there are none to write.
 fn end_session(words: &mut Words, t: u64, ended: bool, i: u64)
     ensures { λ _. ⌜ serverOf (now (words .exit)) ≡ endedAt t ended i (serverOf (now (words .entry))) ⌝ }
 {
@@ -224,6 +226,7 @@ fn end_session(words: &mut Words, t: u64, ended: bool, i: u64)
     }
 }
 
+// The time, and the words of the sessions that are aborted.
 fn end_sessions(words: &mut Words, t: u64, flags: Flags)
     ensures { λ _. ⌜ serverOf (now (words .exit)) ≡ atTime t (sweptBy flags (serverOf (now (words .entry)))) ⌝ }
 {
@@ -234,13 +237,21 @@ fn end_sessions(words: &mut Words, t: u64, flags: Flags)
 }
 
 // The words that a change at a time leaves.
-pub fn save_change(words: &mut Words, t: u64, change: Change)
-    ensures { λ _. ⌜ SavedChange t change (now (words .entry)) (now (words .exit)) ⌝ }
+fn save_change(words: &mut Words, t: u64, change: Change)
+    ensures { λ _. ⌜ serverOf (now (words .exit)) ≡ changeNumbers t change (serverOf (now (words .entry))) ⌝ }
 {
     match change {
         Change::Opens(i) => save_session(words, t, i, opened(t)),
         Change::Closes(i) => save_session(words, t, i, vacant()),
         Change::Ends(flags) => end_sessions(words, t, flags),
-        Change::Refuses(_) => {}
+    }
+}
+
+// A refusal leaves them all.
+pub fn save_decision(words: &mut Words, t: u64, decision: Decision)
+    ensures { λ _. ⌜ SavedDecision t decision (now (words .entry)) (now (words .exit)) ⌝ }
+{
+    if let Decision::Takes(change) = decision {
+        save_change(words, t, change);
     }
 }
