@@ -73,6 +73,7 @@ def targets(times, counts):
         ("batch of 32, full, names and RDATA alike", "full, all match, alike", "batch of 32:", 2.0),
         ("a message, full", "full, all match", "message:", 1.5),
         ("a message, typical", "typical", "message:", 1.5),
+        ("a message that aborts, with the open before it, full", "full, all match", "open, message:", 1.5),
         ("a message judged by its bytes", "no server", "judge", 1.5),
     ]
     lines = ["| what | target | time: best to worst case | instructions: best to worst case | met |", "|---|--:|--:|--:|---|"]
