@@ -31,6 +31,8 @@ edge() {
 # wrote TEXT: the last edge's output, said here and not only by the independent program.
 wrote() { printf "$1" | cmp - "$dir/out"; }
 
+run examples/try.sh first
+run examples/try.sh bench
 same examples/first.script examples/first.expected
 same examples/bench.script examples/bench.expected
 run "$reference" bench --in "$dir/bench.in" --out "$dir/bench.out"
