@@ -22,10 +22,10 @@ ghost use Prim.Native.Nat.{_*_, _≤_, _<_};
 ghost use mathlib.Core.Path.{_≡_};
 ghost use lib.ListN.{length};
 ghost use Rattle.zone.specs.Table.{recordsOf};
-ghost use Rattle.service.specs.Call.{pushTo, edits};
+ghost use Rattle.service.specs.Call.{Bytes, Call, pushTo, edits};
 ghost use Rattle.service.specs.State.{maxSessions};
 ghost use Rattle.service.specs.Checks.{outputSize, leastOutput};
-ghost use Rattle.server.specs.Memory.{slotOf, memoryOf};
+ghost use Rattle.server.specs.Memory.{slotOf, memoryNow};
 ghost use Rattle.server.specs.Answers.{answerOf, countsOf, Serves};
 ghost use Rattle.server_batch.specs.Pushing.{Tells, Changed, TellsAll, toldOf, committedOf, Announces, slotsAt, Edits};
 ghost use mathlib.Core.Bool.{true};
@@ -44,8 +44,14 @@ fn tell(
     subs: &session::Area,
     out: &mut [u8],
 ) -> usize
-    requires { ⌜ (i < maxSessions) × (leastOutput ≤ length (now out)) × Changed (recordsOf olds (now old)) (recordsOf news (now new)) (now gone) (now fresh) ⌝ }
-    ensures { λ r. ⌜ Tells (pushTo (recordsOf olds (now (old .entry))) (recordsOf news (now (new .entry))) (slotOf x (now (subs .entry)))) (i * outputSize) (now (out .entry)) (now (out .exit)) r ⌝ }
+    requires { ⌜
+        (i < maxSessions) × (leastOutput ≤ length (now out))
+        × Changed (recordsOf olds (now old)) (recordsOf news (now new)) (now gone) (now fresh) ⌝ }
+    ensures { λ r. ⌜ (
+        let before = recordsOf olds (now (old .entry)) in
+        let after = recordsOf news (now (new .entry)) in
+        let push = pushTo before after (slotOf x (now (subs .entry))) in
+        Tells push (i * outputSize) (now (out .entry)) (now (out .exit)) r) ⌝ }
 {
     if x.live {
         let at = output_at(i);
@@ -78,8 +84,14 @@ fn tell_all(
     s3: &session::Area,
     out: &mut [u8],
 ) -> Counts
-    requires { ⌜ (leastOutput ≤ length (now out)) × Changed (recordsOf (server .records) (now old)) (recordsOf news (now new)) (now gone) (now fresh) ⌝ }
-    ensures { λ r. ⌜ TellsAll (recordsOf (server .records) (now (old .entry))) (recordsOf news (now (new .entry))) (slotsAt server (now (s0 .entry)) (now (s1 .entry)) (now (s2 .entry)) (now (s3 .entry))) (now (out .entry)) (now (out .exit)) r ⌝ }
+    requires { ⌜
+        (leastOutput ≤ length (now out))
+        × Changed (recordsOf (server .records) (now old)) (recordsOf news (now new)) (now gone) (now fresh) ⌝ }
+    ensures { λ r. ⌜ (
+        let before = recordsOf (server .records) (now (old .entry)) in
+        let after = recordsOf news (now (new .entry)) in
+        let slots = slotsAt server (now (s0 .entry)) (now (s1 .entry)) (now (s2 .entry)) (now (s3 .entry)) in
+        TellsAll before after slots (now (out .entry)) (now (out .exit)) r) ⌝ }
 {
     let x0 = server.s0;
     let x1 = server.s1;
@@ -137,7 +149,11 @@ fn announced(
     out: &mut [u8],
 ) -> Outcome
     requires { ⌜ leastOutput ≤ length (now out) ⌝ }
-    ensures { λ r. ⌜ Announces server t news (recordsOf (server .records) (now (old .entry))) (recordsOf news (now (new .entry))) (slotsAt server (now (s0 .entry)) (now (s1 .entry)) (now (s2 .entry)) (now (s3 .entry))) (now (out .entry)) (now (out .exit)) r ⌝ }
+    ensures { λ r. ⌜ (
+        let before = recordsOf (server .records) (now (old .entry)) in
+        let after = recordsOf news (now (new .entry)) in
+        let slots = slotsAt server (now (s0 .entry)) (now (s1 .entry)) (now (s2 .entry)) (now (s3 .entry)) in
+        Announces server t news before after slots (now (out .entry)) (now (out .exit)) r) ⌝ }
 {
     let gone = departed(old, server.records, new, news);
     let fresh = arrived(old, server.records, new, news);
@@ -163,7 +179,10 @@ fn edit(
     out: &mut [u8],
 ) -> Outcome
     requires { ⌜ leastOutput ≤ length (now out) ⌝ }
-    ensures { λ r. ⌜ Edits server t (now (zone .entry)) (now (old .entry)) (now (new .exit)) (now (s0 .entry)) (now (s1 .entry)) (now (s2 .entry)) (now (s3 .entry)) (now (bytes .entry)) (now (out .entry)) (now (out .exit)) r ⌝ }
+    ensures { λ r. ⌜
+        Edits server t (now (zone .entry)) (now (old .entry)) (now (new .exit))
+        (now (s0 .entry)) (now (s1 .entry)) (now (s2 .entry)) (now (s3 .entry))
+        (now (bytes .entry)) (now (out .entry)) (now (out .exit)) r ⌝ }
 {
     let name = part(zone, 0, server.zone);
     match zone::batch(name, bytes, old, server.records, new) {
@@ -185,7 +204,12 @@ pub fn batch(
     bytes: &[u8],
     out: &mut [u8],
 ) -> Outcome
-    ensures { λ r. ⌜ ((small : areBytes (now (bytes .entry)) ≡ true) → Serves server (memoryOf (now (zone .entry)) (now (first .entry)) (now (second .entry)) (now (s0 .entry)) (now (s1 .entry)) (now (s2 .entry)) (now (s3 .entry))) (edits t (record { list = now (bytes .entry); small = small }) (now (out .entry))) r (memoryOf (now (zone .entry)) (now (first .exit)) (now (second .exit)) (now (s0 .entry)) (now (s1 .entry)) (now (s2 .entry)) (now (s3 .entry))) (now (out .exit))) ⌝ }
+    ensures { λ r. ⌜ (
+        let before = memoryNow (zone .entry) (first .entry) (second .entry) (s0 .entry) (s1 .entry) (s2 .entry) (s3 .entry) in
+        let after = memoryNow (zone .entry) (first .exit) (second .exit) (s0 .entry) (s1 .entry) (s2 .entry) (s3 .entry) in
+        let call : Bytes → Call = λ lent. edits t lent (now (out .entry)) in
+        (small : areBytes (now (bytes .entry)) ≡ true)
+        → Serves server before (call (record { list = now (bytes .entry); small = small })) r after (now (out .exit))) ⌝ }
     ensures { λ r. ⌜ areBytes (now (bytes .entry)) ≡ true ⌝ }
 {
     let b = Brought {

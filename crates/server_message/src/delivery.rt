@@ -28,10 +28,11 @@ ghost use lib.ListN.{length};
 ghost use lib.Pow.{areBytes};
 ghost use Rattle.service.specs.State.{maxSessions};
 ghost use Rattle.service.specs.Checks.{outputSize, leastOutput};
-ghost use Rattle.service.specs.Call.{receives};
-ghost use Rattle.server.specs.Memory.{memoryOf};
+ghost use Rattle.service.specs.Call.{Bytes, Call, receives};
+ghost use Rattle.server.specs.Memory.{memoryNow};
 ghost use Rattle.server.specs.Answers.{Serves, heardIn};
-ghost use Rattle.server_message.specs.Delivery.{DoesAt, Numbered, Turns, Delivers, Hears, countAt, answerTo, sessionAfter, concludedOf, declinedOf, effectIn};
+ghost use Rattle.server_message.specs.Delivery.{countAt, answerTo, sessionAfter, concludedOf, declinedOf, effectIn};
+ghost use Rattle.server_message.specs.Delivery.{DoesAt, Numbered, Turns, Delivers, Hears};
 
 fn only(here: bool, n: usize) -> usize
     ensures { λ r. ⌜ r ≡ cond here n 0 ⌝ }
@@ -106,7 +107,10 @@ fn attend(
     out: &mut [u8],
 ) -> Received
     requires { ⌜ (i < maxSessions) × (leastOutput ≤ length (now out)) ⌝ }
-    ensures { λ r. ⌜ DoesAt (i * outputSize) (effectIn c t (now (zone .entry)) (cond (c .second) (now (second .entry)) (now (first .entry))) (now (m .entry)) (now (subs .entry))) r (now (subs .exit)) (now (out .entry)) (now (out .exit)) ⌝ }
+    ensures { λ r. ⌜ (
+        let store = cond (c .second) (now (second .entry)) (now (first .entry)) in
+        let effect = effectIn c t (now (zone .entry)) store (now (m .entry)) (now (subs .entry)) in
+        DoesAt (i * outputSize) effect r (now (subs .exit)) (now (out .entry)) (now (out .exit))) ⌝ }
 {
     let x = c.session;
     let clocks = x.clocks;
@@ -132,7 +136,10 @@ fn turn(
 ) -> Heard
     requires { ⌜ (i < maxSessions) × (leastOutput ≤ length (now out)) ⌝ }
     requires { ⌜ c .session .live ≡ true ⌝ }
-    ensures { λ h. ⌜ Turns c t i (now (zone .entry)) (cond (c .second) (now (second .entry)) (now (first .entry))) (now (subs .entry)) (now (subs .exit)) (now (m .entry)) (now (out .entry)) (now (out .exit)) h ⌝ }
+    ensures { λ h. ⌜ (
+        let store = cond (c .second) (now (second .entry)) (now (first .entry)) in
+        Turns c t i (now (zone .entry)) store (now (subs .entry)) (now (subs .exit))
+        (now (m .entry)) (now (out .entry)) (now (out .exit)) h) ⌝ }
 {
     concluded(i, attend(c, zone, first, second, subs, t, i, m, out))
 }
@@ -159,7 +166,11 @@ fn deliver(
     requires { ⌜ Numbered is0 is1 is2 i ⌝ }
     requires { ⌜ (i < maxSessions) × (leastOutput ≤ length (now out)) ⌝ }
     requires { ⌜ c .session .live ≡ true ⌝ }
-    ensures { λ h. ⌜ Delivers c t i (now (zone .entry)) (cond (c .second) (now (second .entry)) (now (first .entry))) (now (m .entry)) (now (out .entry)) (now (out .exit)) (now (s0 .entry)) (now (s1 .entry)) (now (s2 .entry)) (now (s3 .entry)) (now (s0 .exit)) (now (s1 .exit)) (now (s2 .exit)) (now (s3 .exit)) h ⌝ }
+    ensures { λ h. ⌜ (
+        let store = cond (c .second) (now (second .entry)) (now (first .entry)) in
+        Delivers c t i (now (zone .entry)) store (now (m .entry)) (now (out .entry)) (now (out .exit))
+        (now (s0 .entry)) (now (s1 .entry)) (now (s2 .entry)) (now (s3 .entry))
+        (now (s0 .exit)) (now (s1 .exit)) (now (s2 .exit)) (now (s3 .exit)) h) ⌝ }
 {
     if is0 {
         return turn(c, zone, first, second, s0, t, i, m, out);
@@ -195,7 +206,10 @@ pub fn hear(
     m: &[u8],
     out: &mut [u8],
 ) -> Heard
-    ensures { λ h. ⌜ Hears c (memoryOf (now (zone .entry)) (now (first .entry)) (now (second .entry)) (now (s0 .entry)) (now (s1 .entry)) (now (s2 .entry)) (now (s3 .entry))) (memoryOf (now (zone .entry)) (now (first .entry)) (now (second .entry)) (now (s0 .exit)) (now (s1 .exit)) (now (s2 .exit)) (now (s3 .exit))) time (session .0) (now (m .entry)) (now (out .entry)) (now (out .exit)) h ⌝ }
+    ensures { λ h. ⌜ (
+        let before = memoryNow (zone .entry) (first .entry) (second .entry) (s0 .entry) (s1 .entry) (s2 .entry) (s3 .entry) in
+        let after = memoryNow (zone .entry) (first .entry) (second .entry) (s0 .exit) (s1 .exit) (s2 .exit) (s3 .exit) in
+        Hears c before after time (session .0) (now (m .entry)) (now (out .entry)) (now (out .exit)) h) ⌝ }
 {
     let i = session.0;
     let x = c.session;
@@ -250,7 +264,12 @@ pub fn message(
     m: &[u8],
     out: &mut [u8],
 ) -> Outcome
-    ensures { λ r. ⌜ ((small : areBytes (now (m .entry)) ≡ true) → Serves server (memoryOf (now (zone .entry)) (now (first .entry)) (now (second .entry)) (now (s0 .entry)) (now (s1 .entry)) (now (s2 .entry)) (now (s3 .entry))) (receives time (session .0) (record { list = now (m .entry); small = small }) (now (out .entry))) r (memoryOf (now (zone .entry)) (now (first .entry)) (now (second .entry)) (now (s0 .exit)) (now (s1 .exit)) (now (s2 .exit)) (now (s3 .exit))) (now (out .exit))) ⌝ }
+    ensures { λ r. ⌜ (
+        let before = memoryNow (zone .entry) (first .entry) (second .entry) (s0 .entry) (s1 .entry) (s2 .entry) (s3 .entry) in
+        let after = memoryNow (zone .entry) (first .entry) (second .entry) (s0 .exit) (s1 .exit) (s2 .exit) (s3 .exit) in
+        let call : Bytes → Call = λ bytes. receives time (session .0) bytes (now (out .entry)) in
+        (small : areBytes (now (m .entry)) ≡ true)
+        → Serves server before (call (record { list = now (m .entry); small = small })) r after (now (out .exit))) ⌝ }
     ensures { λ r. ⌜ areBytes (now (m .entry)) ≡ true ⌝ }
 {
     let i = session.0;
