@@ -6,5 +6,3 @@ pub mod Refusals
 pub mod Ticks
 pub mod Starts
 pub mod Outcomes
-pub mod Delivered
-pub mod Pushed

@@ -5,5 +5,3 @@ pub mod Changes
 pub mod Checks
 pub mod Answers
 pub mod Starting
-pub mod Delivery
-pub mod Pushing

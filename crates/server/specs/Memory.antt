@@ -4,6 +4,7 @@ use Prim.Native.Nat.{ℕ, zero, suc}
 use mathlib.Core.Bool.{cond}
 use mathlib.Core.List.{List, [], _∷_}
 use lib.ListN.{take, getD}
+use denote.Ref.{RefT, now}
 use Rattle.zone.specs.Record.{Record}
 use Rattle.zone.specs.Table.{recordsOf}
 use Rattle.session.specs.Table.{subscriptionsOf}
@@ -38,6 +39,11 @@ withAreas a b c d m = record { zone = m .zone; first = m .first; second = m .sec
 abbrev pub memoryOf : List ℕ → List ℕ → List ℕ → List ℕ → List ℕ → List ℕ → List ℕ → Memory
 memoryOf zone first second a b c d =
     record { zone = zone; first = first; second = second; s0 = a; s1 = b; s2 = c; s3 = d }
+
+-- The memory that lent references refer to, each as it is at a call's entry or at its exit.
+abbrev pub memoryNow : RefT (List ℕ) → RefT (List ℕ) → RefT (List ℕ) → RefT (List ℕ) → RefT (List ℕ) → RefT (List ℕ) → RefT (List ℕ)
+    → Memory
+memoryNow zone first second a b c d = memoryOf (now zone) (now first) (now second) (now a) (now b) (now c) (now d)
 
 unfoldable pub putArea : ℕ → List ℕ → Memory → Memory
 putArea zero a m = withAreas a (m .s1) (m .s2) (m .s3) m

@@ -3,13 +3,13 @@ use server::Name;
 use server::Outcome;
 use server::Server;
 use server::Started;
-use server::batch;
-use server::message;
 use server::open;
 use server::start;
+use server_batch::batch;
+use server_message::message;
 use service::Refusal;
 use service::SessionNumber;
-ghost use Rattle.server.specs.Memory.{memoryOf};
+ghost use Rattle.server.specs.Memory.{memoryNow};
 ghost use Rattle.views.specs.Plays.{Continues, Plays};
 
 // What an open, a message and a batch gave.
@@ -41,7 +41,11 @@ pub fn proceed(
     reply: &mut [u8],
     out: &mut [u8],
 ) -> Ran
-    ensures { λ r. ⌜ Continues server (memoryOf (now (zone .entry)) (now (first .entry)) (now (second .entry)) (now (s0 .entry)) (now (s1 .entry)) (now (s2 .entry)) (now (s3 .entry))) t (now (m .entry)) (now (bytes .entry)) (now (reply .entry)) (now (reply .exit)) (now (out .entry)) (now (out .exit)) r (memoryOf (now (zone .entry)) (now (first .exit)) (now (second .exit)) (now (s0 .exit)) (now (s1 .exit)) (now (s2 .exit)) (now (s3 .exit))) ⌝ }
+    ensures { λ r. ⌜ (
+        let before = memoryNow (zone .entry) (first .entry) (second .entry) (s0 .entry) (s1 .entry) (s2 .entry) (s3 .entry) in
+        let after = memoryNow (zone .entry) (first .exit) (second .exit) (s0 .exit) (s1 .exit) (s2 .exit) (s3 .exit) in
+        Continues server before t (now (m .entry)) (now (bytes .entry))
+        (now (reply .entry)) (now (reply .exit)) (now (out .entry)) (now (out .exit)) r after) ⌝ }
 {
     let i = SessionNumber(0);
     let opened = open(server, t);
@@ -71,7 +75,10 @@ pub fn play(
     reply: &mut [u8],
     out: &mut [u8],
 ) -> Played
-    ensures { λ r. ⌜ Plays (now (name .entry)) t (now (m .entry)) (now (bytes .entry)) (now (reply .entry)) (now (reply .exit)) (now (out .entry)) (now (out .exit)) r (memoryOf (now (zone .exit)) (now (first .exit)) (now (second .exit)) (now (s0 .exit)) (now (s1 .exit)) (now (s2 .exit)) (now (s3 .exit))) ⌝ }
+    ensures { λ r. ⌜ (
+        let after = memoryNow (zone .exit) (first .exit) (second .exit) (s0 .exit) (s1 .exit) (s2 .exit) (s3 .exit) in
+        Plays (now (name .entry)) t (now (m .entry)) (now (bytes .entry))
+        (now (reply .entry)) (now (reply .exit)) (now (out .entry)) (now (out .exit)) r after) ⌝ }
 {
     match start(name, zone) {
         Started::Refused(why) => Played::Unnamed(why),

@@ -16,18 +16,18 @@ use server::Name;
 use server::Outcome;
 use server::Started;
 use server::answer_number;
-use server::batch;
 use server::decide_close;
 use server::decide_open;
 use server::decide_tick;
 use server::decision_answer;
-use server::hear;
 use server::refusal_number;
 use server::start;
+use server_batch::batch;
+use server_message::hear;
 use service::SessionNumber;
 ghost use mathlib.Core.List.{[]};
-ghost use Rattle.service.specs.Call.{Bytes, outcome, opens, closes, receives, edits, ticks};
-ghost use Rattle.server.specs.Memory.{Memory, memoryOf};
+ghost use Rattle.service.specs.Call.{Bytes, Call, outcome, opens, closes, receives, edits, ticks};
+ghost use Rattle.server.specs.Memory.{Memory, memoryNow};
 ghost use Rattle.server.specs.Answers.{heardIn};
 ghost use Rattle.server.specs.Changes.{decidedBy};
 ghost use Rattle.weavemitten.specs.Words.{serverOf};
@@ -69,7 +69,8 @@ fn keep_decision(words: &mut Words, t: u64, decision: Decision) -> u32
 
 #[no_mangle]
 pub extern "C" fn weavemitten_call_start(words: &mut Words, octets: &mut Name, zone: &[u8]) -> u32
-    ensures { λ r. ⌜ Begins (now (zone .entry)) (now (words .entry)) (now (words .exit)) (now (octets .entry)) (now (octets .exit)) r ⌝ }
+    ensures { λ r. ⌜
+        Begins (now (zone .entry)) (now (words .entry)) (now (words .exit)) (now (octets .entry)) (now (octets .exit)) r ⌝ }
 {
     match start(zone, octets) {
         Started::Running(server) => {
@@ -82,7 +83,10 @@ pub extern "C" fn weavemitten_call_start(words: &mut Words, octets: &mut Name, z
 
 #[no_mangle]
 pub extern "C" fn weavemitten_call_open(words: &mut Words, time: u64, values: &mut Values) -> u32
-    ensures { λ r. ⌜ ((m : Memory) → ReturnsWith (now (values .exit)) (now (words .entry)) (now (words .exit)) m [] r (outcome (heldBy (now (words .entry)) m) (opens time))) ⌝ }
+    ensures { λ r. ⌜ (
+        (m : Memory)
+        → ReturnsWith (now (values .exit)) (now (words .entry)) (now (words .exit)) m [] r
+        (outcome (heldBy (now (words .entry)) m) (opens time))) ⌝ }
 {
     let decision = decide_open(load(words), time);
     put(values, decision_answer(decision));
@@ -91,7 +95,10 @@ pub extern "C" fn weavemitten_call_open(words: &mut Words, time: u64, values: &m
 
 #[no_mangle]
 pub extern "C" fn weavemitten_call_close(words: &mut Words, time: u64, session: u64) -> u32
-    ensures { λ r. ⌜ ((m : Memory) → Returns (now (words .entry)) (now (words .exit)) m [] r (outcome (heldBy (now (words .entry)) m) (closes time session))) ⌝ }
+    ensures { λ r. ⌜ (
+        (m : Memory)
+        → Returns (now (words .entry)) (now (words .exit)) m [] r
+        (outcome (heldBy (now (words .entry)) m) (closes time session))) ⌝ }
 {
     let decision = decide_close(load(words), time, SessionNumber(session));
     keep_decision(words, time, decision)
@@ -113,7 +120,12 @@ pub extern "C" fn weavemitten_call_message(
     out: &mut [u8],
     values: &mut Values,
 ) -> u32
-    ensures { λ r. ⌜ ReturnsOn (now (m .entry)) (now (values .exit)) (now (words .entry)) (now (words .exit)) (memoryOf (now (zone .entry)) (now (first .entry)) (now (second .entry)) (now (s0 .exit)) (now (s1 .exit)) (now (s2 .exit)) (now (s3 .exit))) (now (out .exit)) r (λ (bytes : Bytes). outcome (heldBy (now (words .entry)) (memoryOf (now (zone .entry)) (now (first .entry)) (now (second .entry)) (now (s0 .entry)) (now (s1 .entry)) (now (s2 .entry)) (now (s3 .entry)))) (receives time session bytes (now (out .entry)))) ⌝ }
+    ensures { λ r. ⌜ (
+        let before = memoryNow (zone .entry) (first .entry) (second .entry) (s0 .entry) (s1 .entry) (s2 .entry) (s3 .entry) in
+        let after = memoryNow (zone .entry) (first .entry) (second .entry) (s0 .exit) (s1 .exit) (s2 .exit) (s3 .exit) in
+        let call : Bytes → Call = λ bytes. receives time session bytes (now (out .entry)) in
+        ReturnsOn (now (m .entry)) (now (values .exit)) (now (words .entry)) (now (words .exit)) after (now (out .exit)) r
+        (λ bytes. outcome (heldBy (now (words .entry)) before) (call bytes))) ⌝ }
 {
     let context = load_context(words, session);
     let number = SessionNumber(session);
@@ -151,7 +163,12 @@ pub extern "C" fn weavemitten_call_batch(
     out: &mut [u8],
     values: &mut Values,
 ) -> u32
-    ensures { λ r. ⌜ ReturnsOn (now (bytes .entry)) (now (values .exit)) (now (words .entry)) (now (words .exit)) (memoryOf (now (zone .entry)) (now (first .exit)) (now (second .exit)) (now (s0 .entry)) (now (s1 .entry)) (now (s2 .entry)) (now (s3 .entry))) (now (out .exit)) r (λ (lent : Bytes). outcome (heldBy (now (words .entry)) (memoryOf (now (zone .entry)) (now (first .entry)) (now (second .entry)) (now (s0 .entry)) (now (s1 .entry)) (now (s2 .entry)) (now (s3 .entry)))) (edits time lent (now (out .entry)))) ⌝ }
+    ensures { λ r. ⌜ (
+        let before = memoryNow (zone .entry) (first .entry) (second .entry) (s0 .entry) (s1 .entry) (s2 .entry) (s3 .entry) in
+        let after = memoryNow (zone .entry) (first .exit) (second .exit) (s0 .entry) (s1 .entry) (s2 .entry) (s3 .entry) in
+        let call : Bytes → Call = λ lent. edits time lent (now (out .entry)) in
+        ReturnsOn (now (bytes .entry)) (now (values .exit)) (now (words .entry)) (now (words .exit)) after (now (out .exit)) r
+        (λ lent. outcome (heldBy (now (words .entry)) before) (call lent))) ⌝ }
 {
     let server = load(words);
     let outcome = batch(
@@ -174,7 +191,10 @@ pub extern "C" fn weavemitten_call_batch(
 
 #[no_mangle]
 pub extern "C" fn weavemitten_call_tick(words: &mut Words, time: u64, values: &mut Values) -> u32
-    ensures { λ r. ⌜ ((m : Memory) → ReturnsWith (now (values .exit)) (now (words .entry)) (now (words .exit)) m [] r (outcome (heldBy (now (words .entry)) m) (ticks time))) ⌝ }
+    ensures { λ r. ⌜ (
+        (m : Memory)
+        → ReturnsWith (now (values .exit)) (now (words .entry)) (now (words .exit)) m [] r
+        (outcome (heldBy (now (words .entry)) m) (ticks time))) ⌝ }
 {
     let decision = decide_tick(load(words), time);
     put(values, decision_answer(decision));

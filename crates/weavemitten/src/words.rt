@@ -15,7 +15,8 @@ ghost use lib.ListN.{length};
 ghost use Rattle.service.specs.State.{maxSessions};
 ghost use Rattle.server.specs.Numbers.{sessionAt, contextOf, atTime, sweptBy};
 ghost use Rattle.server.specs.Changes.{changeNumbers};
-ghost use Rattle.weavemitten.specs.Words.{flag, timeout, placeOf, sessionIn, serverOf, Six, Saved, Stored, SavedSession, endedAt, SavedDecision};
+ghost use Rattle.weavemitten.specs.Words.{flag, timeout, placeOf, sessionIn, serverOf, endedAt};
+ghost use Rattle.weavemitten.specs.Words.{Six, Saved, Stored, SavedSession, SavedDecision};
 
 pub const WORDS: usize = 28;
 

@@ -3,7 +3,7 @@ use mathlib.Core.Path.{refl}
 use Rattle.service.specs.Call.{receives}
 use Rattle.server.specs.Memory.{memoryOf}
 use Rattle.server.specs.Answers.{heardIn}
-use Rattle.server.proofs.Delivered.{has-context}
+use Rattle.server_message.proofs.Delivered.{has-context}
 use Rattle.weavemitten.specs.Words.{serverOf}
 use Rattle.weavemitten.proofs.Serving.{returned-with}
 use borrow.Author.Needs.{needs}

@@ -1,0 +1,2 @@
+-- What a batch makes of the server.
+pub mod Pushing

@@ -1,0 +1,2 @@
+-- Laws of a received message.
+pub mod Delivered

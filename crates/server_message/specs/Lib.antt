@@ -1,0 +1,2 @@
+-- What a received message makes of the server.
+pub mod Delivery
