@@ -214,7 +214,7 @@ module _ (r : Run) (h : Related r) (t s : ℕ) (m : Bytes) (lent : List ℕ) (q 
   unfolding effectOutcome noted afterMessage answerNumber bytesFor
   abort-kept =
       record {
-        related = rw (observe-nothing (receives t s m lent) aborted lent (r .observer) (λ (i : ℕ). refl)) (replaced r h t s free none tt);
+        related = rw (observe-nothing (receives t s m lent) aborted _ (r .observer) (λ (i : ℕ). refl)) (replaced r h t s free none tt);
         kept = nothing-kept aborted lent (λ (i : ℕ). refl);
       }
 

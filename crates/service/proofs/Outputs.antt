@@ -5,7 +5,7 @@ use native.Mathlib.Omega.{arith}
 use mathlib.Core.Bool.{Bool, true, false, cond, _&&_}
 use mathlib.Core.List.{List, [], _∷_, map}
 use mathlib.Core.Path.{_≡_, refl, sym, ap, _∙_}
-use lib.ListN.{length, getD, set, take, drop, length-map, List·getD-map, List·getD-eq-default}
+use lib.ListN.{length, getD, set, take, drop, List·getD-map, List·getD-eq-default}
 use lib.Seq.{sets, length-sets, getD-set-other}
 use lib.Dec.{eqb}
 use borrow.Author.Tests.{eqb-true}
@@ -74,6 +74,7 @@ bytes-told ws o s fit room =
 
 -- ---- what keeps its value
 
+-- A byte that is not among those that are set.
 pub sets-elsewhere : (o : List ℕ) (i : ℕ) (w : List ℕ) (j : ℕ) → ((k : ℕ) → k < length w → j ≡ i + k → ⊥)
     → getD (sets o i w) j 0 ≡ getD o j 0
 sets-elsewhere o i [] j h = refl
@@ -94,7 +95,7 @@ written-beyond s (w ∷ ws) o i k small fit beyond =
     let fits : length w ≤ outputSize = fit 0 in
     let own : length w ≤ k = beyond 0 (omega arith) in omega arith)
 
--- An answer that states just what is written, for at most four sessions and for none more than its part holds.
+-- An answer that states just what is written for the four sessions, for none more than its part holds.
 pub written-kept : (a : Answer) (ws : List (List ℕ)) (o : List ℕ) → ((s : ℕ) → countFor a s ≡ length (getD ws s []))
     → ((s : ℕ) → length (getD ws s []) ≤ outputSize) → length ws ≡ maxSessions → Kept a o (written 0 ws o)
 written-kept a ws o stated fit four =

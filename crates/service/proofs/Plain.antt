@@ -18,7 +18,7 @@ use Rattle.service.specs.Call.{Call, opens, closes, ticks, lent, openOut
 use Rattle.service.specs.declared.refusal.Refusal.{Refusal}
 use Rattle.service.specs.declared.refusal.Refusal.the-variants.{AllOpen}
 use Rattle.service.specs.Reader.{bytesFor}
-use Rattle.service.specs.Observer.{Client, Observer, newborn, withClients, noted, observe, goneWhere}
+use Rattle.service.specs.Observer.{Client, newborn, withClients, noted, goneWhere}
 use Rattle.service.specs.Demand.{Run}
 use Rattle.service.proofs.Outputs.{nothing-kept}
 use Rattle.service.proofs.Related.{Told, PlaceAt, Related, Leads, placed}

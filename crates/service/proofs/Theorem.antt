@@ -60,7 +60,6 @@ use Rattle.service.specs.Demand.{
   Pushed,
   isOpen,
   isLiving,
-  Holds,
   HoldsNext,
 }
 use Rattle.service.proofs.Related.{Told, PlaceAt, Related, Leads}
