@@ -25,8 +25,7 @@ use Rattle.push.proofs.Plains.{changes-plain, sendable, length-pushOf-le}
 use Rattle.service.specs.State.{State, Session, Slot, free, live, maxSessions}
 use Rattle.service.specs.Answer.{Answer, done, sent, answerNumber}
 use Rattle.service.specs.Checks.{outputSize, leastOutput}
-use Rattle.service.specs.Call.{Bytes, edits, Outcome, batchOutcome, pushTo, told, written, refuse}
-use Rattle.service.specs.declared.refusal.Refusal.the-variants.{Batch}
+use Rattle.service.specs.Call.{Bytes, edits, pushTo, told, written}
 use Rattle.service.specs.Reader.{bytesFor, messagesIn, orNone, allPushes, pushesIn, pushesOf}
 use Rattle.service.specs.Observer.{
   Client,
@@ -40,10 +39,8 @@ use Rattle.service.specs.Observer.{
   applyPushes,
 }
 use Rattle.service.specs.Demand.{Run, inOne}
-use Rattle.service.proofs.Outputs.{bytes-told}
-use Rattle.service.proofs.Related.{Told, PlaceAt, Related, length-heard, heard-at}
-use Rattle.service.proofs.Quiet.{messagesIn-nil, refused-observed}
-use Rattle.service.proofs.Plain.{Kept}
+use Rattle.service.proofs.Outputs.{count-told, bytes-told, written-kept}
+use Rattle.service.proofs.Related.{Told, PlaceAt, Related, Leads, length-heard, heard-at}
 
 -- ---- a PUSH is heard as the changes that it was written for
 
@@ -109,12 +106,14 @@ module _ (r : Run) (h : Related r) (bytes : List ℕ) (small : areBytes bytes �
   outputs-room : (i : ℕ) → length (getD outputs i []) ≤ outputSize
   outputs-room i = rw (output-at i) (slot-room (getD (r .state .slots) i free))
 
+  outputs-four : length outputs ≡ maxSessions
+  outputs-four = length-map (r .state .slots) (pushTo (r .state .store) new) ∙ h .slots
+
   -- What the answer states for a session is the PUSH for its slot.
   pub bytes-at : (output : List ℕ) → leastOutput ≤ length output → (i : ℕ)
       → bytesFor (told outputs) (written 0 outputs output) i ≡ pushTo (r .state .store) new (getD (r .state .slots) i free)
   bytes-at output room i =
-      bytes-told outputs output i outputs-room
-      (omega (arith, length-map (r .state .slots) (pushTo (r .state .store) new), h .slots)) ∙ output-at i
+      bytes-told outputs output i outputs-room (omega (arith, outputs-four)) ∙ output-at i
 
   place-kept : (x : Slot) (c : Option Client) → PlaceAt (r .state .store) x c
       → PlaceAt new x (Option·map (hearing (pushTo (r .state .store) new x)) c)
@@ -129,23 +128,27 @@ module _ (r : Run) (h : Related r) (bytes : List ℕ) (small : areBytes bytes �
       }
 
   -- After a batch that is carried out.
-  pub carried-kept : (t : ℕ) (b : Bytes) (lent output : List ℕ) → b .list ≡ bytes → leastOutput ≤ length output
-      → Related (record {
-        state = record { zone = r .state .zone; latest = t; store = new; slots = r .state .slots };
-        observer = observe (edits t b lent) (told outputs) (written 0 outputs output) (r .observer);
+  pub carried-kept : (t : ℕ) (b : Bytes) (output : List ℕ) → b .list ≡ bytes → leastOutput ≤ length output
+      → Leads r (edits t b output) (record {
+        answer = told outputs;
+        next = record { zone = r .state .zone; latest = t; store = new; slots = r .state .slots };
+        output = written 0 outputs output;
       })
   unfolding observe noted
-  carried-kept t b lent output same room =
+  carried-kept t b output same room =
       let after : cond (eqb (answerNumber (told outputs)) 1 || eqb (answerNumber (told outputs)) 2)
       (storedOr (r .observer .store) (batchOf (r .observer .zone) (b .list) (r .observer .store))) (r .observer .store) ≡ new
       = rw (told-number outputs, same, h .zones, h .stores, carried) in
       record {
-        zones = h .zones;
-        stores = after;
-        sound = sound-new;
-        slots = h .slots;
-        clients = length-heard 0 (told outputs) (written 0 outputs output) (r .observer .clients) ∙ h .clients;
-        places = λ (i : ℕ).
-            rw (heard-at 0 (told outputs) (written 0 outputs output) (r .observer .clients) i, zero-add i, bytes-at output room i)
-            (place-kept (getD (r .state .slots) i free) (getD (r .observer .clients) i none) (h .places i));
+        related = record {
+          zones = h .zones;
+          stores = after;
+          sound = sound-new;
+          slots = h .slots;
+          clients = length-heard 0 (told outputs) (written 0 outputs output) (r .observer .clients) ∙ h .clients;
+          places = λ (i : ℕ).
+              rw (heard-at 0 (told outputs) (written 0 outputs output) (r .observer .clients) i, zero-add i, bytes-at output room i)
+              (place-kept (getD (r .state .slots) i free) (getD (r .observer .clients) i none) (h .places i));
+        };
+        kept = written-kept (told outputs) outputs output (count-told outputs) outputs-room outputs-four;
       }

@@ -5,7 +5,7 @@ use mathlib.Core.Bool.{Bool, true, false, cond, not, _&&_, _||_, or-false, and-t
 use mathlib.Core.List.{List, [], _∷_, _++_, append-nil}
 use mathlib.Core.Option.{Option, none, some, Option·map}
 use mathlib.Core.Path.{_≡_, refl, sym, ap, ap₂, subst, _∙_}
-use lib.ListN.{length, getD, set, drop, length-set, length-append}
+use lib.ListN.{length, getD, set, take, drop, length-set, length-append}
 use lib.Seq.{sets, getD-set-same, set-set, set-getD}
 use lib.Dec.{eqb, leb, ltb}
 use borrow.Author.Tests.{eqb-true, eq-eqb, ne-eqb, leb-false, ltb-false}
@@ -79,8 +79,8 @@ use Rattle.service.specs.Message.{
   answered,
   messageEffect,
 }
-use Rattle.service.specs.Call.{Bytes, receives, brought, Outcome, effectOutcome, messageOutcome, effectAt}
-use Rattle.service.specs.Reader.{bytesFor, messagesIn, orNone, isSuccess}
+use Rattle.service.specs.Call.{Bytes, receives, brought, withSlots, effectOutcome, messageOutcome, effectAt}
+use Rattle.service.specs.Reader.{countFor, bytesFor, messagesIn, orNone, isSuccess}
 use Rattle.service.specs.Observer.{
   Client,
   Observer,
@@ -100,12 +100,13 @@ use Rattle.service.specs.Observer.{
   named,
 }
 use Rattle.service.specs.Demand.{Run}
-use Rattle.service.proofs.Related.{Told, PlaceAt, Related}
+use Rattle.service.proofs.Outputs.{nothing-kept}
+use Rattle.service.proofs.Related.{Told, PlaceAt, Related, Leads}
 use Rattle.service.proofs.Quiet.{observe-nothing, nothing-accepted}
 use Rattle.service.proofs.Checks.{Passed}
 use Rattle.service.proofs.Plain.{replaced}
 use Rattle.service.proofs.Batch.{pushed-applied}
-use Rattle.service.proofs.Replies.{counts, bytes-own, heard-own}
+use Rattle.service.proofs.Replies.{counts, bytes-own, own-kept, heard-own}
 
 -- ---- replies as the observer reads them
 
@@ -198,12 +199,8 @@ module _ (r : Run) (h : Related r) (t s : ℕ) (m : Bytes) (lent : List ℕ) (q 
   store = r .state .store
 
   -- What the effect of a message leads to.
-  abbrev Leads : Effect → Type 0
-  Leads e =
-      Related (record {
-        state = effectOutcome (r .state) t s lent e .next;
-        observer = observe (receives t s m lent) (effectOutcome (r .state) t s lent e .answer) (effectOutcome (r .state) t s lent e .output) (r .observer);
-      })
+  abbrev EffectLeads : Effect → Type 0
+  EffectLeads e = Leads r (receives t s m lent) (effectOutcome (r .state) t s lent e)
 
   -- The session goes on with other clocks, and its client is as it was.
   same-client : clients ≡ set clients s (some (q .client))
@@ -213,32 +210,36 @@ module _ (r : Run) (h : Related r) (t s : ℕ) (m : Bytes) (lent : List ℕ) (q 
   still-told x e =
       record { subs = q .holds .subs ∙ sym e; exact = rw e (q .holds .exact) }
 
-  abort-kept : Leads abort
+  abort-kept : EffectLeads abort
   unfolding effectOutcome noted afterMessage answerNumber bytesFor
   abort-kept =
-      rw (observe-nothing (receives t s m lent) aborted lent (r .observer) (λ (i : ℕ). refl)) (replaced r h t s free none tt)
+      record {
+        related = rw (observe-nothing (receives t s m lent) aborted _ (r .observer) (λ (i : ℕ). refl)) (replaced r h t s free none tt);
+        kept = nothing-kept aborted lent (λ (i : ℕ). refl);
+      }
 
   -- An answer that says nothing to the observer.
-  quiet-kept : (a : Answer) (x : Session) → x .subscriptions ≡ q .session .subscriptions → ((i : ℕ) → bytesFor a lent i ≡ [])
+  quiet-kept : (a : Answer) (x : Session) → x .subscriptions ≡ q .session .subscriptions → ((i : ℕ) → countFor a i ≡ 0)
       → eqb (answerNumber a) 4 ≡ false → eqb (answerNumber a) 1 ≡ false
-      → Related (record {
-        state = record { zone = r .state .zone; latest = t; store = store; slots = set (r .state .slots) s (live x) };
-        observer = observe (receives t s m lent) a lent (r .observer);
-      })
-  unfolding noted afterMessage
+      → Leads r (receives t s m lent) (record { answer = a; next = withSlots t (set (r .state .slots) s (live x)) (r .state); output = lent })
+  unfolding noted afterMessage bytesFor
   quiet-kept a x e none-sent not4 not1 =
-      rw (observe-nothing (receives t s m lent) a lent (r .observer) none-sent, not4, not1, nothing-accepted (m .list) (bytesFor a lent s) (none-sent s))
-      (subst (λ (cl : List (Option Client)). Related (record {
-        state = record { zone = r .state .zone; latest = t; store = store; slots = set (r .state .slots) s (live x) };
-        observer = withClients cl (r .observer);
-      })) (sym same-client) (replaced r h t s (live x) (some (q .client)) (still-told x e)))
+      let nothing : (i : ℕ) → bytesFor a lent i ≡ [] = λ i. ap (λ (n : ℕ). take n (drop (i * outputSize) lent)) (none-sent i) in
+      record {
+        related = rw (observe-nothing (receives t s m lent) a lent (r .observer) nothing, not4, not1, nothing-accepted (m .list) (bytesFor a lent s) (nothing s))
+            (subst (λ (cl : List (Option Client)). Related (record {
+              state = withSlots t (set (r .state .slots) s (live x)) (r .state);
+              observer = withClients cl (r .observer);
+            })) (sym same-client) (replaced r h t s (live x) (some (q .client)) (still-told x e)));
+        kept = nothing-kept a lent none-sent;
+      }
 
-  others-kept : (x : Session) → x .subscriptions ≡ q .session .subscriptions → Leads (others x)
-  unfolding effectOutcome answerNumber bytesFor
+  others-kept : (x : Session) → x .subscriptions ≡ q .session .subscriptions → EffectLeads (others x)
+  unfolding effectOutcome answerNumber
   others-kept x e = quiet-kept notOurs x e (λ (i : ℕ). refl) refl refl
 
-  places-kept : (x : Session) (p : RecordPlaces) → x .subscriptions ≡ q .session .subscriptions → Leads (places x p)
-  unfolding effectOutcome answerNumber bytesFor
+  places-kept : (x : Session) (p : RecordPlaces) → x .subscriptions ≡ q .session .subscriptions → EffectLeads (places x p)
+  unfolding effectOutcome answerNumber
   places-kept x p e = quiet-kept (reconfirm p) x e (λ (i : ℕ). refl) refl refl
 
   -- UNSUBSCRIBE: one subscription fewer.
@@ -253,21 +254,27 @@ module _ (r : Run) (h : Related r) (t s : ℕ) (m : Bytes) (lent : List ℕ) (q 
             (λ k. wantedKey-fewer (λ (b : Subscription). not (eqb (b .id) id)) (q .session .subscriptions) k) (q .holds .exact));
       }
 
-  nothing-kept : (x : Session) → x .subscriptions ≡ without (field 2 (drop dataStart (m .list))) (q .session .subscriptions)
-      → Leads (nothing x)
+  done-kept : (x : Session) → x .subscriptions ≡ without (field 2 (drop dataStart (m .list))) (q .session .subscriptions)
+      → EffectLeads (nothing x)
   unfolding effectOutcome noted afterMessage answerNumber bytesFor
-  nothing-kept x e =
-      rw (observe-nothing (receives t s m lent) done lent (r .observer) (λ (i : ℕ). refl), q .heardBy)
-      (replaced r h t s (live x) (some (unsubscribing (field 2 (drop dataStart (m .list))) (q .client)))
-      (fewer-told (field 2 (drop dataStart (m .list))) x e))
+  done-kept x e =
+      record {
+        related = rw (observe-nothing (receives t s m lent) done lent (r .observer) (λ (i : ℕ). refl), q .heardBy)
+            (replaced r h t s (live x) (some (unsubscribing (field 2 (drop dataStart (m .list))) (q .client)))
+            (fewer-told (field 2 (drop dataStart (m .list))) x e));
+        kept = nothing-kept done lent (λ (i : ℕ). refl);
+      }
 
   -- A reply, with whatever follows it: the observer notes a client, and that client hears the bytes.
   reply-kept : (x : Session) (w : List ℕ) (c : Client) → length w ≤ outputSize
-      → afterMessage s (m .list) 2 w clients ≡ set clients s (some c) → Told store x (hearing w c) → Leads (reply x w)
+      → afterMessage s (m .list) 2 w clients ≡ set clients s (some c) → Told store x (hearing w c) → EffectLeads (reply x w)
   unfolding effectOutcome observe noted answerNumber
   reply-kept x w c fits after told =
-      rw (bytes-own s (q .inside) w lent fits (q .room), after, heard-own s (q .inside) w lent fits (q .room) (set clients s (some c)) (length-set clients s (some c) ∙ h .clients), getD-set-same clients s (some c) none (omega (arith, h .clients, q .inside)), set-set clients s (some c) (some (hearing w c)))
-      (replaced r h t s (live x) (some (hearing w c)) told)
+      record {
+        related = rw (bytes-own s (q .inside) w lent fits (q .room), after, heard-own s (q .inside) w lent fits (q .room) (set clients s (some c)) (length-set clients s (some c) ∙ h .clients), getD-set-same clients s (some c) none (omega (arith, h .clients, q .inside)), set-set clients s (some c) (some (hearing w c)))
+            (replaced r h t s (live x) (some (hearing w c)) told);
+        kept = own-kept s (q .inside) w lent fits (q .room);
+      }
 
   -- A reply that accepts nothing.
   unnoted : (w : List ℕ) → isAccepted (m .list) w ≡ false → afterMessage s (m .list) 2 w clients ≡ set clients s (some (q .client))
@@ -275,7 +282,7 @@ module _ (r : Run) (h : Related r) (t s : ℕ) (m : Bytes) (lent : List ℕ) (q 
   unnoted w e = rw e same-client
 
   unaccepted-kept : (x : Session) (id : ℕ) (resp : Response) → id < 65536 → x .subscriptions ≡ q .session .subscriptions
-      → isAccepted (m .list) (responseOctets id resp) ≡ false → Leads (reply x (responseOctets id resp))
+      → isAccepted (m .list) (responseOctets id resp) ≡ false → EffectLeads (reply x (responseOctets id resp))
   unaccepted-kept x id resp small e not-accepted =
       reply-kept x (responseOctets id resp) (q .client) (omega (arith, response-length id resp))
       (unnoted (responseOctets id resp) not-accepted) (rw (lone-hearing id resp (q .client) small) (still-told x e))
@@ -319,7 +326,7 @@ module _ (r : Run) (h : Related r) (t s : ℕ) (m : Bytes) (lent : List ℕ) (q 
         (response-not-push (response (sub .id) Subscribed) (is-answer (sub .id) Subscribed small))
         ∙ pushed-applied told (q .client .records) told-sendable
 
-    accepted-kept : (x : Session) → x .subscriptions ≡ q .session .subscriptions ++ (sub ∷ []) → Leads (reply x sentBytes)
+    accepted-kept : (x : Session) → x .subscriptions ≡ q .session .subscriptions ++ (sub ∷ []) → EffectLeads (reply x sentBytes)
     accepted-kept x e =
         reply-kept x sentBytes (subscribing sub (q .client)) sent-fits noted-accepted
         (record {
@@ -330,13 +337,13 @@ module _ (r : Run) (h : Related r) (t s : ℕ) (m : Bytes) (lent : List ℕ) (q 
 
   -- ---- by the judgment
 
-  cond-leads : (b : Bool) (e f : Effect) → Leads e → Leads f → Leads (cond b e f)
+  cond-leads : (b : Bool) (e f : Effect) → EffectLeads e → EffectLeads f → EffectLeads (cond b e f)
   cond-leads true e f g k = g
   cond-leads false e f g k = k
 
   module _ (x : Session) (same : x .subscriptions ≡ q .session .subscriptions) where
     subscribed-kept : (sub : Subscription) → subscriptionIn (m .list) ≡ sub → firstType (m .list) ≡ subscribeType → sub .id < 65536
-        → Leads (subscribed (r .state .zone) store sub x)
+        → EffectLeads (subscribed (r .state .zone) store sub x)
     unfolding subscribed
     subscribed-kept sub is first small =
         cond-leads (usesId (sub .id) (x .subscriptions)) abort _ abort-kept
@@ -348,7 +355,7 @@ module _ (r : Run) (h : Related r) (t s : ℕ) (m : Bytes) (lent : List ℕ) (q 
         (accepted-kept sub is first small (withSubscriptions (x .subscriptions ++ (sub ∷ [])) x)
         (ap (λ (l : List Subscription). l ++ (sub ∷ [])) same)))))
 
-    alive-kept : (id : MessageId) → id .0 < 65536 → firstType (m .list) ≡ keepaliveType → Leads (keptAlive id x)
+    alive-kept : (id : MessageId) → id .0 < 65536 → firstType (m .list) ≡ keepaliveType → EffectLeads (keptAlive id x)
     unfolding keptAlive
     alive-kept id small first =
         cond-leads (usesId (id .0) (x .subscriptions)) abort _ abort-kept
@@ -365,7 +372,7 @@ module _ (r : Run) (h : Related r) (t s : ℕ) (m : Bytes) (lent : List ℕ) (q 
     same-subscription id k a =
         rw (a .named, a .places, a .sameId, field-take-le 2 2 (drop (dataStart + a .size) (m .list)) (omega arith), field-take-le 2 2 (drop (dataStart + a .size + 2) (m .list)) (omega arith))
 
-    judgment-kept : (j : Judgment) → Meant (m .list) j → Leads (answered (r .state .zone) store (m .list) j x)
+    judgment-kept : (j : Judgment) → Meant (m .list) j → EffectLeads (answered (r .state .zone) store (m .list) j x)
     unfolding answered asked
     judgment-kept NotOurs k = others-kept x same
     judgment-kept Abort k = abort-kept
@@ -375,13 +382,10 @@ module _ (r : Run) (h : Related r) (t s : ℕ) (m : Bytes) (lent : List ℕ) (q 
     judgment-kept (Keepalive id) k = alive-kept id (omega (arith, id-small, k .0)) (k .1)
     judgment-kept (Subscribe id asks) k =
         subscribed-kept (asked (m .list) id asks) (same-subscription id asks k) (k .first) (omega (arith, id-small, k .sameId))
-    judgment-kept (Unsubscribe id) k = nothing-kept _ (ap₂ without k same)
+    judgment-kept (Unsubscribe id) k = done-kept _ (ap₂ without k same)
     judgment-kept (Reconfirm parts) k = places-kept x parts same
 
-  pub message-kept : Related (record {
-    state = messageOutcome (r .state) t s (m .list) lent .next;
-    observer = observe (receives t s m lent) (messageOutcome (r .state) t s (m .list) lent .answer) (messageOutcome (r .state) t s (m .list) lent .output) (r .observer);
-  })
+  pub message-kept : Leads r (receives t s m lent) (messageOutcome (r .state) t s (m .list) lent)
   unfolding messageOutcome messageEffect judged
   message-kept =
       rw (q .there) (judgment-kept (withClocks (received _ t (q .session .clocks)) (q .session)) refl (judgment (m .list)) (judgment-meant (m .list)))

@@ -1,22 +1,24 @@
--- What a batch writes for a session is what the observer reads for it.
+-- What is written for a session is what the observer reads for it, and no other byte of the output changes.
 use Prim.Native.Nat.{ℕ, zero, suc, _+_, _*_, _≤_, _<_}
 use native.Mathlib.Nat.{add-suc, suc-add, add-zero, zero-add}
 use native.Mathlib.Omega.{arith}
 use mathlib.Core.Bool.{Bool, true, false, cond, _&&_}
 use mathlib.Core.List.{List, [], _∷_, map}
 use mathlib.Core.Path.{_≡_, refl, sym, ap, _∙_}
-use lib.ListN.{length, getD, take, drop, List·getD-map}
-use lib.Seq.{sets, length-sets}
+use lib.ListN.{length, getD, set, take, drop, List·getD-map, List·getD-eq-default}
+use lib.Seq.{sets, length-sets, getD-set-other}
 use lib.Dec.{eqb}
 use borrow.Author.Tests.{eqb-true}
 use Rattle.wire.specs.Part.{part}
 use Rattle.wire.proofs.Writes.{part-before, part-written}
 use Rattle.zone.specs.Lists.{allOf}
 use Rattle.zone.proofs.Lists.{and-left, and-right}
+use Rattle.service.specs.State.{maxSessions}
 use Rattle.service.specs.Answer.{Answer, done, sent}
 use Rattle.service.specs.Checks.{outputSize}
 use Rattle.service.specs.Call.{written, told}
 use Rattle.service.specs.Reader.{countFor, bytesFor}
+use Rattle.service.specs.Demand.{Kept}
 
 pub length-written : (s : ℕ) (ws : List (List ℕ)) (o : List ℕ) → length (written s ws o) ≡ length o
 unfolding written
@@ -47,25 +49,70 @@ each s (w ∷ ws) o (suc i) fit room =
     ∙ each (suc s) ws (sets o (s * outputSize) w) i (λ (j : ℕ). fit (suc j))
     (omega (arith, length-sets o (s * outputSize) w))
 
-empty : (w : List ℕ) → length w ≡ 0 → [] ≡ w
-empty [] h = refl
-empty (a ∷ w) h = absurd (omega arith)
-
-none-written : (ws : List (List ℕ)) (i : ℕ) → allOf (λ (w : List ℕ). eqb (length w) 0) ws ≡ true → [] ≡ getD ws i []
+none-written : (ws : List (List ℕ)) (i : ℕ) → allOf (λ (w : List ℕ). eqb (length w) 0) ws ≡ true → 0 ≡ length (getD ws i [])
 none-written [] i h = refl
-none-written (w ∷ ws) zero h = empty w (eqb-true (length w) 0 (and-left _ _ h))
+none-written (w ∷ ws) zero h = sym (eqb-true (length w) 0 (and-left _ _ h))
 none-written (w ∷ ws) (suc i) h = none-written ws i (and-right (eqb (length w) 0) _ h)
+
+-- A batch's answer states for each session how many bytes were written for it.
+pub count-told : (ws : List (List ℕ)) (s : ℕ) → countFor (told ws) s ≡ length (getD ws s [])
+count-told ws s = go (allOf (λ (w : List ℕ). eqb (length w) 0) ws) refl
+  where
+    go : (b : Bool) → allOf (λ (w : List ℕ). eqb (length w) 0) ws ≡ b
+        → countFor (cond b done (sent (map length ws))) s ≡ length (getD ws s [])
+    go true e = none-written ws s e
+    go false e = List·getD-map length ws s []
 
 -- The bytes that a batch's answer states for a session are those written for it.
 pub bytes-told : (ws : List (List ℕ)) (o : List ℕ) (s : ℕ) → ((j : ℕ) → length (getD ws j []) ≤ outputSize)
     → length ws * outputSize ≤ length o → bytesFor (told ws) (written 0 ws o) s ≡ getD ws s []
 unfolding bytesFor
-bytes-told ws o s fit room = go (allOf (λ (w : List ℕ). eqb (length w) 0) ws) refl
-  where
-    go : (b : Bool) → allOf (λ (w : List ℕ). eqb (length w) 0) ws ≡ b
-        → take (countFor (cond b done (sent (map length ws))) s) (drop (s * outputSize) (written 0 ws o)) ≡ getD ws s []
-    go true e = none-written ws s e
-    go false e =
-        ap (λ (n : ℕ). take n (drop (s * outputSize) (written 0 ws o))) (List·getD-map length ws s [])
-        ∙ ap (λ (k : ℕ). part (written 0 ws o) (k * outputSize) (length (getD ws s []))) (sym (zero-add s))
-        ∙ each 0 ws o s fit (omega arith)
+bytes-told ws o s fit room =
+    ap (λ (n : ℕ). take n (drop (s * outputSize) (written 0 ws o))) (count-told ws s)
+    ∙ ap (λ (k : ℕ). part (written 0 ws o) (k * outputSize) (length (getD ws s []))) (sym (zero-add s))
+    ∙ each 0 ws o s fit (omega arith)
+
+-- ---- what keeps its value
+
+-- A byte that is not among those that are set.
+pub sets-elsewhere : (o : List ℕ) (i : ℕ) (w : List ℕ) (j : ℕ) → ((k : ℕ) → k < length w → j ≡ i + k → ⊥)
+    → getD (sets o i w) j 0 ≡ getD o j 0
+sets-elsewhere o i [] j h = refl
+sets-elsewhere o i (v ∷ w) j h =
+    sets-elsewhere (set o i v) (suc i) w j (λ (k : ℕ) (l : k < length w) (e : j ≡ suc i + k). h (suc k) (omega arith) (omega arith))
+    ∙ getD-set-other o i j v 0 (λ (e : j ≡ i). h 0 (omega arith) (omega arith))
+
+-- Byte k of session i, which is beyond what is written for it.
+written-beyond : (s : ℕ) (ws : List (List ℕ)) (o : List ℕ) (i k : ℕ) → k < outputSize
+    → ((j : ℕ) → length (getD ws j []) ≤ outputSize) → ((j : ℕ) → i ≡ s + j → length (getD ws j []) ≤ k)
+    → getD (written s ws o) (i * outputSize + k) 0 ≡ getD o (i * outputSize + k) 0
+unfolding written
+written-beyond s [] o i k small fit beyond = refl
+written-beyond s (w ∷ ws) o i k small fit beyond =
+    written-beyond (suc s) ws (sets o (s * outputSize) w) i k small (λ (j : ℕ). fit (suc j))
+    (λ (j : ℕ) (e : i ≡ suc s + j). beyond (suc j) (omega arith))
+    ∙ sets-elsewhere o (s * outputSize) w (i * outputSize + k) (λ (j : ℕ) (l : j < length w) (e : i * outputSize + k ≡ s * outputSize + j).
+    let fits : length w ≤ outputSize = fit 0 in
+    let own : length w ≤ k = beyond 0 (omega arith) in omega arith)
+
+-- An answer that states just what is written for the four sessions, for none more than its part holds.
+pub written-kept : (a : Answer) (ws : List (List ℕ)) (o : List ℕ) → ((s : ℕ) → countFor a s ≡ length (getD ws s []))
+    → ((s : ℕ) → length (getD ws s []) ≤ outputSize) → length ws ≡ maxSessions → Kept a o (written 0 ws o)
+written-kept a ws o stated fit four =
+    record {
+      size = length-written 0 ws o;
+      fits = λ (s : ℕ). omega (arith, stated s, fit s);
+      four = λ (s : ℕ) (h : maxSessions ≤ s). stated s ∙ ap length (List·getD-eq-default ws [] (omega arith));
+      beyond = λ (s k : ℕ) (h : countFor a s ≤ k) (small : k < outputSize).
+          written-beyond 0 ws o s k small fit (λ (j : ℕ) (e : s ≡ 0 + j). omega (arith, stated s, ap (λ (n : ℕ). length (getD ws n [])) (e ∙ zero-add j)));
+    }
+
+-- An answer that states no bytes.
+pub nothing-kept : (a : Answer) (o : List ℕ) → ((s : ℕ) → countFor a s ≡ 0) → Kept a o o
+nothing-kept a o stated =
+    record {
+      size = refl;
+      fits = λ (s : ℕ). omega (arith, stated s);
+      four = λ (s : ℕ) (h : maxSessions ≤ s). stated s;
+      beyond = λ (s k : ℕ) (h : countFor a s ≤ k) (small : k < outputSize). refl;
+    }

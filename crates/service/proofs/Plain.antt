@@ -14,17 +14,15 @@ use Rattle.zone.proofs.Views.{find-view}
 use Rattle.session.specs.Clocks.{started}
 use Rattle.service.specs.State.{State, Session, Slot, free, live, lowestFree}
 use Rattle.service.specs.Answer.{Answer, done, opened, ended, refused, answerNumber}
-use Rattle.service.specs.Call.{opens, closes, ticks, Outcome, openOutcome, closeOutcome, tickOutcome, endsAt, refuse}
+use Rattle.service.specs.Call.{Call, opens, closes, ticks, lent, openOutcome, closeOutcome, tickOutcome, endsAt, refuse}
+use Rattle.service.specs.declared.refusal.Refusal.{Refusal}
 use Rattle.service.specs.declared.refusal.Refusal.the-variants.{AllOpen}
 use Rattle.service.specs.Reader.{bytesFor}
-use Rattle.service.specs.Observer.{Client, Observer, newborn, withClients, noted, observe, goneWhere}
+use Rattle.service.specs.Observer.{Client, newborn, withClients, noted, goneWhere}
 use Rattle.service.specs.Demand.{Run}
-use Rattle.service.proofs.Related.{Told, PlaceAt, Related, placed}
+use Rattle.service.proofs.Outputs.{nothing-kept}
+use Rattle.service.proofs.Related.{Told, PlaceAt, Related, Leads, placed}
 use Rattle.service.proofs.Quiet.{observe-nothing, refused-observed}
-
--- What a call leads to, from its outcome.
-abbrev pub Kept : Run → (Outcome → Observer) → Outcome → Type 0
-Kept r watch x = Related (record { state = x .next; observer = watch x })
 
 -- A session that was just opened has no subscription, and its client no record.
 fresh-told : (store : List Record) (t : ℕ) → Told store (record { subscriptions = []; clocks = started t }) newborn
@@ -52,12 +50,19 @@ module _ (r : Run) (h : Related r) where
         places = placed (r .state .store) (r .state .slots) (r .observer .clients) (h .places) same-length s x c p;
       }
 
-  pub open-kept : (t : ℕ) → Kept r (λ (x : Outcome). observe (opens t) (x .answer) (x .output) (r .observer)) (openOutcome (r .state) t)
+  pub refused-kept : (c : Call) (f : Refusal) → Leads r c (refuse (r .state) (lent c) f)
+  refused-kept c f =
+      record {
+        related = rw (refused-observed c f (lent c) (r .observer)) h;
+        kept = nothing-kept (refused f) (lent c) (λ (s : ℕ). refl);
+      }
+
+  pub open-kept : (t : ℕ) → Leads r (opens t) (openOutcome (r .state) t)
   unfolding openOutcome noted bytesFor
   open-kept t = go (lowestFree (r .state .slots))
     where
       go : (o : Option ℕ)
-          → Kept r (λ (x : Outcome). observe (opens t) (x .answer) (x .output) (r .observer))
+          → Leads r (opens t)
           (elim o [
             | none ↦ refuse (r .state) [] AllOpen
             | some s ↦ record {
@@ -71,16 +76,22 @@ module _ (r : Run) (h : Related r) where
               output = [];
             }
           ])
-      go none = rw (refused-observed (opens t) AllOpen [] (r .observer)) h
+      go none = refused-kept (opens t) AllOpen
       go (some s) =
-          rw (observe-nothing (opens t) (opened s) [] (r .observer) (λ (i : ℕ). refl))
-          (replaced t s (live (record { subscriptions = []; clocks = started t })) (some newborn)
-          (fresh-told (r .state .store) t))
+          record {
+            related = rw (observe-nothing (opens t) (opened s) [] (r .observer) (λ (i : ℕ). refl))
+                (replaced t s (live (record { subscriptions = []; clocks = started t })) (some newborn)
+                (fresh-told (r .state .store) t));
+            kept = nothing-kept (opened s) [] (λ (i : ℕ). refl);
+          }
 
-  pub close-kept : (t s : ℕ) → Kept r (λ (x : Outcome). observe (closes t s) (x .answer) (x .output) (r .observer)) (closeOutcome (r .state) t s)
+  pub close-kept : (t s : ℕ) → Leads r (closes t s) (closeOutcome (r .state) t s)
   unfolding closeOutcome noted bytesFor answerNumber
   close-kept t s =
-      rw (observe-nothing (closes t s) done [] (r .observer) (λ (i : ℕ). refl)) (replaced t s free none tt)
+      record {
+        related = rw (observe-nothing (closes t s) done [] (r .observer) (λ (i : ℕ). refl)) (replaced t s free none tt);
+        kept = nothing-kept done [] (λ (i : ℕ). refl);
+      }
 
 -- ---- a tick
 
@@ -106,19 +117,22 @@ ended-place store true x c p = tt
 ended-place store false x c p = p
 
 module _ (r : Run) (h : Related r) where
-  pub tick-kept : (t : ℕ) → Kept r (λ (x : Outcome). observe (ticks t) (x .answer) (x .output) (r .observer)) (tickOutcome (r .state) t)
+  pub tick-kept : (t : ℕ) → Leads r (ticks t) (tickOutcome (r .state) t)
   unfolding tickOutcome noted bytesFor
   tick-kept t =
       let slots = r .state .slots in
       let clients = r .observer .clients in
-      rw (observe-nothing (ticks t) (ended (map (endsAt t) slots)) [] (r .observer) (λ (i : ℕ). refl))
-      (record {
-        zones = h .zones;
-        stores = h .stores;
-        sound = h .sound;
-        slots = length-map slots (λ (x : Slot). cond (endsAt t x) free x) ∙ h .slots;
-        clients = length-goneWhere (map (endsAt t) slots) clients ∙ h .clients;
-        places = λ (i : ℕ).
-            rw (List·getD-map (λ (x : Slot). cond (endsAt t x) free x) slots i free, goneWhere-at (map (endsAt t) slots) clients i, List·getD-map (endsAt t) slots i free)
-            (ended-place (r .state .store) (endsAt t (getD slots i free)) (getD slots i free) (getD clients i none) (h .places i));
-      })
+      record {
+        related = rw (observe-nothing (ticks t) (ended (map (endsAt t) slots)) [] (r .observer) (λ (i : ℕ). refl))
+            (record {
+              zones = h .zones;
+              stores = h .stores;
+              sound = h .sound;
+              slots = length-map slots (λ (x : Slot). cond (endsAt t x) free x) ∙ h .slots;
+              clients = length-goneWhere (map (endsAt t) slots) clients ∙ h .clients;
+              places = λ (i : ℕ).
+                  rw (List·getD-map (λ (x : Slot). cond (endsAt t x) free x) slots i free, goneWhere-at (map (endsAt t) slots) clients i, List·getD-map (endsAt t) slots i free)
+                  (ended-place (r .state .store) (endsAt t (getD slots i free)) (getD slots i free) (getD clients i none) (h .places i));
+            });
+        kept = nothing-kept (ended (map (endsAt t) slots)) [] (λ (i : ℕ). refl);
+      }

@@ -19,8 +19,9 @@ use Rattle.zone.proofs.Lists.{decided}
 use Rattle.service.specs.State.{State, Session, Slot, free, live, maxSessions}
 use Rattle.service.specs.Answer.{Answer}
 use Rattle.service.specs.Reader.{bytesFor}
-use Rattle.service.specs.Observer.{Client, Observer, hearing, heard}
-use Rattle.service.specs.Demand.{Run}
+use Rattle.service.specs.Call.{Call, Outcome, lent}
+use Rattle.service.specs.Observer.{Client, Observer, hearing, heard, observe}
+use Rattle.service.specs.Demand.{Run, Kept}
 
 pub record Told (store : List Record) (x : Session) (c : Client) : Type 0 where
   pub subs : c .subscriptions ≡ x .subscriptions
@@ -39,6 +40,12 @@ pub record Related (r : Run) : Type 0 where
   pub slots : length (r .state .slots) ≡ maxSessions
   pub clients : length (r .observer .clients) ≡ maxSessions
   pub places : (s : ℕ) → PlaceAt (r .state .store) (getD (r .state .slots) s free) (getD (r .observer .clients) s none)
+
+-- What an outcome of a call leads to: state and observer are related again, and no byte of the output changed but those that
+-- the answer states.
+pub record Leads (r : Run) (c : Call) (x : Outcome) : Type 0 where
+  pub related : Related (record { state = x .next; observer = observe c (x .answer) (x .output) (r .observer) })
+  pub kept : Kept (x .answer) (lent c) (x .output)
 
 -- Two places at an index are what they were, or what was put there.
 module _ (store : List Record) (slots : List Slot) (clients : List (Option Client)) (all : (s : ℕ) → PlaceAt store (getD slots s free) (getD clients s none)) (same : length slots ≡ length clients) where

@@ -8,7 +8,7 @@ use mathlib.Core.Option.{Option, none, some, Option·map}
 use mathlib.Core.Path.{_≡_, refl, sym, ap, _∙_}
 use mathlib.Core.Logic.{⊎-elim}
 use lib.ListN.{length, getD, set, take, drop, replicate, length-set, length-replicate}
-use lib.Seq.{sets, getD-set-same, getD-set-other, ext-getD}
+use lib.Seq.{sets, length-sets, getD-set-same, getD-set-other, ext-getD}
 use lib.Dec.{eqb}
 use borrow.Author.Tests.{eqb-true, eqb-false}
 use Rattle.wire.proofs.Writes.{part-written}
@@ -16,8 +16,10 @@ use Rattle.zone.proofs.Lists.{decided}
 use Rattle.service.specs.State.{maxSessions}
 use Rattle.service.specs.Answer.{Answer, sent}
 use Rattle.service.specs.Checks.{outputSize, leastOutput}
-use Rattle.service.specs.Reader.{bytesFor}
+use Rattle.service.specs.Reader.{countFor, bytesFor}
 use Rattle.service.specs.Observer.{Client, hearing, heard}
+use Rattle.service.specs.Demand.{Kept}
+use Rattle.service.proofs.Outputs.{sets-elsewhere}
 use Rattle.service.proofs.Related.{length-heard, heard-at}
 use Rattle.service.proofs.Quiet.{hearing-nothing}
 
@@ -38,18 +40,37 @@ module _ (s : ℕ) (inside : s < maxSessions) (w output : List ℕ) (fits : leng
   abbrev after : List ℕ
   after = sets output (s * outputSize) w
 
+  count-own : countFor answer s ≡ length w
+  count-own =
+      getD-set-same (replicate maxSessions 0) s (length w) 0 (omega (arith, length-replicate {A = ℕ} maxSessions 0))
+
+  count-other : (i : ℕ) → (i ≡ s → ⊥) → countFor answer i ≡ 0
+  count-other i other = getD-set-other (replicate maxSessions 0) s i (length w) 0 other ∙ zeros maxSessions i
+
   pub bytes-own : bytesFor answer after s ≡ w
   unfolding bytesFor
   bytes-own =
-      ap (λ (n : ℕ). take n (drop (s * outputSize) after))
-      (getD-set-same (replicate maxSessions 0) s (length w) 0 (omega (arith, length-replicate {A = ℕ} maxSessions 0)))
+      ap (λ (n : ℕ). take n (drop (s * outputSize) after)) count-own
       ∙ part-written output (s * outputSize) w (omega arith)
 
   pub bytes-other : (i : ℕ) → (i ≡ s → ⊥) → bytesFor answer after i ≡ []
   unfolding bytesFor
-  bytes-other i other =
-      ap (λ (n : ℕ). take n (drop (i * outputSize) after))
-      (getD-set-other (replicate maxSessions 0) s i (length w) 0 other ∙ zeros maxSessions i)
+  bytes-other i other = ap (λ (n : ℕ). take n (drop (i * outputSize) after)) (count-other i other)
+
+  -- Only the stated bytes change.
+  pub own-kept : Kept answer output after
+  own-kept =
+      record {
+        size = length-sets output (s * outputSize) w;
+        fits = λ (i : ℕ).
+            ⊎-elim (λ (e : eqb i s ≡ true). omega (arith, count-own, ap (countFor answer) (eqb-true i s e)))
+            (λ (e : eqb i s ≡ false). omega (arith, count-other i (eqb-false i s e))) (decided (eqb i s));
+        four = λ (i : ℕ) (h : maxSessions ≤ i). count-other i (λ (e : i ≡ s). omega arith);
+        beyond = λ (i k : ℕ) (h : countFor answer i ≤ k) (small : k < outputSize).
+            sets-elsewhere output (s * outputSize) w (i * outputSize + k)
+            (λ (j : ℕ) (l : j < length w) (e : i * outputSize + k ≡ s * outputSize + j).
+            let same : i ≡ s = omega arith in omega (arith, count-own, ap (countFor answer) same));
+      }
 
   -- Only the client of the session hears something.
   pub heard-own : (cl : List (Option Client)) → length cl ≡ maxSessions

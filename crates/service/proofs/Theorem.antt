@@ -60,25 +60,18 @@ use Rattle.service.specs.Demand.{
   Pushed,
   isOpen,
   isLiving,
-  Holds,
+  HoldsNext,
 }
-use Rattle.service.proofs.Related.{Told, PlaceAt, Related}
-use Rattle.service.proofs.Quiet.{refused-observed, refusal-not}
+use Rattle.service.proofs.Related.{Told, PlaceAt, Related, Leads}
+use Rattle.service.proofs.Quiet.{refusal-not}
 use Rattle.service.proofs.Checks.{Passed, checks-passed}
-use Rattle.service.proofs.Plain.{open-kept, close-kept, tick-kept}
+use Rattle.service.proofs.Plain.{refused-kept, open-kept, close-kept, tick-kept}
 use Rattle.service.proofs.Batch.{carried-kept, bytes-at, list-sendable, pushesIn-push}
 use Rattle.service.proofs.Message.{meets, message-kept}
 
 -- ---- every call keeps the relation
 
 module _ (r : Run) (h : Related r) where
-  -- What an outcome leads to.
-  abbrev Leads : Call → Outcome → Type 0
-  Leads c x = Related (record { state = x .next; observer = observe c (x .answer) (x .output) (r .observer) })
-
-  refused-kept : (c : Call) (o : List ℕ) (f : Refusal) → Leads c (refuse (r .state) o f)
-  refused-kept c o f = rw (refused-observed c f o (r .observer)) h
-
   -- The list for a session after a batch that is carried out.
   module _ (b : Bytes) (new : List Record) (e : batchOf (r .state .zone) (b .list) (r .state .store) ≡ stored new) where
     list-for : (subs : List Subscription) → AfterBatch subs (r .state .store) new
@@ -91,12 +84,12 @@ module _ (r : Run) (h : Related r) where
     few-new : (subs : List Subscription) → length (changes new (view subs (r .state .store)) (view subs new)) ≤ 32
     few-new subs = list-for subs .few
 
-  batch-kept : (t : ℕ) (b : Bytes) (o : List ℕ) → leastOutput ≤ length o → Leads (edits t b o) (batchOutcome (r .state) t (b .list) o)
+  batch-kept : (t : ℕ) (b : Bytes) (o : List ℕ) → leastOutput ≤ length o → Leads r (edits t b o) (batchOutcome (r .state) t (b .list) o)
   unfolding batchOutcome
   batch-kept t b o room = go (batchOf (r .state .zone) (b .list) (r .state .store)) refl
     where
       go : (e : Edited) → batchOf (r .state .zone) (b .list) (r .state .store) ≡ e
-          → Leads (edits t b o)
+          → Leads r (edits t b o)
           (elim e [
             | faulty f ↦ refuse (r .state) o (Batch f)
             | stored new ↦ let ws = map (pushTo (r .state .store) new) (r .state .slots) in record {
@@ -105,11 +98,11 @@ module _ (r : Run) (h : Related r) where
               output = written 0 ws o;
             }
           ])
-      go (faulty f) e = refused-kept (edits t b o) o (Batch f)
+      go (faulty f) e = refused-kept r h (edits t b o) (Batch f)
       go (stored new) e =
-          carried-kept r h (b .list) (b .small) new e (arrives-new b new e) (few-new b new e) t b o o refl room
+          carried-kept r h (b .list) (b .small) new e (arrives-new b new e) (few-new b new e) t b o refl room
 
-  passed-kept : (c : Call) → Passed (r .state) (brought c) → Leads c (passed (r .state) c)
+  passed-kept : (c : Call) → Passed (r .state) (brought c) → Leads r c (passed (r .state) c)
   unfolding passed
   passed-kept (opens t) p = open-kept r h t
   passed-kept (closes t s) p = close-kept r h t s
@@ -117,14 +110,18 @@ module _ (r : Run) (h : Related r) where
   passed-kept (edits t b o) p = batch-kept t b o (ltb-false (length o) leastOutput (p .roomy))
   passed-kept (ticks t) p = tick-kept r h t
 
-  pub step-kept : (c : Call) → Related (stepped r c)
-  unfolding stepped outcome
-  step-kept c = go (refusalOf (r .state) (brought c)) refl
+  outcome-kept : (c : Call) → Leads r c (outcome (r .state) c)
+  unfolding outcome
+  outcome-kept c = go (refusalOf (r .state) (brought c)) refl
     where
       go : (o : Option Refusal) → refusalOf (r .state) (brought c) ≡ o
-          → Leads c (elim o [ some f ↦ refuse (r .state) (lent c) f | none ↦ passed (r .state) c ])
-      go (some f) e = refused-kept c (lent c) f
+          → Leads r c (elim o [ some f ↦ refuse (r .state) (lent c) f | none ↦ passed (r .state) c ])
+      go (some f) e = refused-kept r h c f
       go none e = passed-kept c (checks-passed (r .state) (brought c) e)
+
+  pub step-kept : (c : Call) → Related (stepped r c)
+  unfolding stepped
+  step-kept c = outcome-kept c .related
 
 -- ---- the beginning
 
@@ -211,8 +208,8 @@ module _ (r : Run) (h : Related r) (t : ℕ) (b : Bytes) (o : List ℕ) (s : ℕ
         output = written 0 (map (pushTo (r .state .store) new) (r .state .slots)) o;
       })
   carried-tells room new e d =
-      let k = carried-kept r h (b .list) (b .small) new e (arrives-new r h b new e) (few-new r h b new e) t b o o refl room in
-      rw (k .stores, h .stores, bytes-at r h (b .list) (b .small) new e (arrives-new r h b new e) (few-new r h b new e) o room s, slot-of (getD (r .state .slots) s free) (rw lives at (h .places s)) new)
+      let k = carried-kept r h (b .list) (b .small) new e (arrives-new r h b new e) (few-new r h b new e) t b o refl room in
+      rw (k .related .stores, h .stores, bytes-at r h (b .list) (b .small) new e (arrives-new r h b new e) (few-new r h b new e) o room s, slot-of (getD (r .state .slots) s free) (rw lives at (h .places s)) new)
       (record {
         written = refl;
         told = pushesIn-push (changes new (view (x .subscriptions) (r .state .store)) (view (x .subscriptions) new))
@@ -248,8 +245,7 @@ module _ (r : Run) (h : Related r) (t : ℕ) (b : Bytes) (o : List ℕ) (s : ℕ
 
 pushed-of : (r : Run) → Related r → (c : Call) → isBatch c ≡ true → isDone (outcome (r .state) c .answer) ≡ true → (s : ℕ) (x : Client)
     → getD (r .observer .clients) s none ≡ some x
-    → Pushed (r .observer .store) (stepped r c .observer .store) (x .subscriptions) (bytesFor (outcome (r .state) c .answer) (outcome (r .state) c .output) s)
-unfolding stepped
+    → Pushed (r .observer .store) (observe c (outcome (r .state) c .answer) (outcome (r .state) c .output) (r .observer) .store) (x .subscriptions) (bytesFor (outcome (r .state) c .answer) (outcome (r .state) c .output) s)
 pushed-of r h (opens t) e d s x l = absurd (let z : _≡_ {A = ℕ} 0 1 = cc in omega arith)
 pushed-of r h (closes t n) e d s x l = absurd (let z : _≡_ {A = ℕ} 0 1 = cc in omega arith)
 pushed-of r h (receives t n m o) e d s x l = absurd (let z : _≡_ {A = ℕ} 0 1 = cc in omega arith)
@@ -259,13 +255,20 @@ pushed-of r h (ticks t) e d s x l = absurd (let z : _≡_ {A = ℕ} 0 1 = cc in 
 -- ---- the theorem
 
 -- Of any run in which state and observer are related.
-pub holds-of : (r : Run) → Related r → (c : Call) → Holds r c
+pub holds-of : (r : Run) → Related r → (c : Call) → HoldsNext r c
+unfolding stepped
 holds-of r h c =
-    let k : Related (stepped r c) = step-kept r h c in
-    record { views = views-of (stepped r c) k; living = living-of (stepped r c) k; stores = k .stores; pushed = pushed-of r h c }
+    let k = outcome-kept r h c in
+    record {
+      views = views-of (stepped r c) (k .related);
+      living = living-of (stepped r c) (k .related);
+      stores = k .related .stores;
+      pushed = pushed-of r h c;
+      kept = k .kept;
+    }
 
 -- Demand 3: for every zone's name with which a start answers 1, every list of calls from there, and every next call.
 pub demand-three : (zone : List ℕ) (st : State) → start zone ≡ running st → (calls : List Call) (c : Call)
-    → Holds (runOf (begun zone st) calls) c
+    → HoldsNext (runOf (begun zone st) calls) c
 demand-three zone st e calls =
     holds-of (runOf (begun zone st) calls) (run-related (begun zone st) (begun-related zone st e) calls)

@@ -1,10 +1,10 @@
 -- Demand 3 (01, "Demand 3 over whole lists"), as a statement about the state and the observer after any list of calls.
-use Prim.Native.Nat.{ℕ}
+use Prim.Native.Nat.{ℕ, _+_, _*_, _≤_, _<_}
 use mathlib.Core.Bool.{Bool, true, false, _||_}
 use mathlib.Core.List.{List, [], _∷_}
 use mathlib.Core.Option.{Option, none, some}
 use mathlib.Core.Path.{_≡_}
-use lib.ListN.{getD}
+use lib.ListN.{length, getD}
 use lib.Dec.{eqb}
 use Rattle.zone.specs.Record.{Record}
 use Rattle.zone.specs.Match.{Subscription, view}
@@ -14,9 +14,10 @@ use Rattle.push.specs.List.{changes}
 use Rattle.push.specs.Octets.{pushOf}
 use Rattle.push.specs.Measure.{Right}
 use Rattle.service.specs.Answer.{Answer, answerNumber}
-use Rattle.service.specs.State.{State, Slot, free, live}
-use Rattle.service.specs.Call.{Call, opens, closes, receives, edits, ticks, Outcome, outcome}
-use Rattle.service.specs.Reader.{bytesFor, pushesIn}
+use Rattle.service.specs.State.{State, Slot, free, live, maxSessions}
+use Rattle.service.specs.Checks.{outputSize}
+use Rattle.service.specs.Call.{Call, opens, closes, receives, edits, ticks, lent, outcome}
+use Rattle.service.specs.Reader.{countFor, bytesFor, pushesIn}
 use Rattle.service.specs.Observer.{Client, Observer, watching, observe}
 
 -- A run: the server's state, and the observer beside it.
@@ -75,16 +76,32 @@ abbrev pub isLiving : Option Client → Bool
 isLiving none = false
 isLiving (some c) = true
 
--- Demand 3, of a run and the next call.
-pub record Holds (r : Run) (c : Call) : Type 0 where
+-- What a call writes into the output slice: the bytes that its answer states, and no other. Byte k of session s stands at
+-- s x 16,384 + k.
+pub record Kept (a : Answer) (before after : List ℕ) : Type 0 where
+  pub size : length after ≡ length before
+  -- "four shelves of 16,384 bytes each": what is stated for a session fits its part, and sessions are 0 to 3.
+  pub fits : (s : ℕ) → countFor a s ≤ outputSize
+  pub four : (s : ℕ) → maxSessions ≤ s → countFor a s ≡ 0
+  -- "Bytes beyond a stated count, and other shelves, keep their values."
+  pub beyond : (s k : ℕ) → countFor a s ≤ k → k < outputSize
+      → getD after (s * outputSize + k) 0 ≡ getD before (s * outputSize + k) 0
+
+-- Demand 3, of a call: what the observer knew, the call, its answer and the output slice as it left it, and the next state.
+pub record Holds (o : Observer) (c : Call) (a : Answer) (output : List ℕ) (next : State) : Type 0 where
   -- After the call each client has just its view.
-  pub views : Faithful (stepped r c .observer)
+  pub views : Faithful (observe c a output o)
   -- The sessions that live for the observer are those that are open.
-  pub living : (s : ℕ) → isLiving (getD (stepped r c .observer .clients) s none) ≡ isOpen (getD (stepped r c .state .slots) s free)
+  pub living : (s : ℕ) → isLiving (getD (observe c a output o .clients) s none) ≡ isOpen (getD (next .slots) s free)
   -- The stores are the same.
-  pub stores : stepped r c .observer .store ≡ stepped r c .state .store
+  pub stores : observe c a output o .store ≡ next .store
   -- After a batch that is carried out each client is told the right list.
-  pub pushed : isBatch c ≡ true → isDone (outcome (r .state) c .answer) ≡ true → (s : ℕ) (x : Client)
-      → getD (r .observer .clients) s none ≡ some x
-      → Pushed (r .observer .store) (stepped r c .observer .store) (x .subscriptions)
-      (bytesFor (outcome (r .state) c .answer) (outcome (r .state) c .output) s)
+  pub pushed : isBatch c ≡ true → isDone a ≡ true → (s : ℕ) (x : Client) → getD (o .clients) s none ≡ some x
+      → Pushed (o .store) (observe c a output o .store) (x .subscriptions) (bytesFor a output s)
+  -- Whatever the answer, a refusal too: no byte changes but those that it states as written.
+  pub kept : Kept a (lent c) output
+
+-- Demand 3, of a run and the next call, with what the definitions give for it.
+abbrev pub HoldsNext : Run → Call → Type 0
+HoldsNext r c =
+    Holds (r .observer) c (outcome (r .state) c .answer) (outcome (r .state) c .output) (outcome (r .state) c .next)

@@ -17,10 +17,9 @@ use Rattle.service.proofs.Related.{Related}
 use Rattle.service.proofs.Theorem.{begun-related, step-kept, holds-of}
 use Rattle.service.proofs.Numbers.{positive}
 use Rattle.server.specs.Memory.{Memory, stateOf}
-use Rattle.weavemitten.specs.Values.{valuesOf}
 use Rattle.weavemitten.specs.Calls.{heldBy, Returns, Begins}
-use Rattle.weavemitten.specs.Told.{answerFrom, hasValues}
-use Rattle.weavemitten.specs.Runs.{Lent, lentOf, runOf, Runs, begun, next}
+use Rattle.weavemitten.specs.Told.{answerFrom}
+use Rattle.weavemitten.specs.Runs.{Lent, lentOf, runOf, Step, Runs, begun, next}
 use Rattle.weavemitten.proofs.Told.{answer-read}
 
 -- ---- no answer is 0
@@ -52,20 +51,26 @@ unfolding stateOf
 held-four w m = refl
 
 -- A step of the code is a step of the definitions.
-pub same-step : (l : Lent) (o : Observer) (c : Call) (v w′ : List ℕ) (after : Memory) (output : List ℕ) (r : ℕ)
-    → Returns (l .words) w′ after output r (outcome (heldBy (l .words) (l .memory)) c)
-    → (hasValues c ≡ true → v ≡ valuesOf (outcome (heldBy (l .words) (l .memory)) c .answer))
-    → runOf (lentOf w′ after) (observe c (answerFrom c r v) output o) ≡ stepped (runOf l o) c
-unfolding stepped
-same-step l o c v w′ after output r h g =
-    rw (h .next, h .output, h .answer, answer-read (heldBy (l .words) (l .memory)) (held-four (l .words) (l .memory)) c v g)
+module _ (l : Lent) (o : Observer) (c : Call) (r : ℕ) (v w′ : List ℕ) (after : Memory) (output : List ℕ)
+    (s : Step l c r v w′ after output) where
+  answer-told : answerFrom c r v ≡ outcome (heldBy (l .words) (l .memory)) c .answer
+  answer-told =
+      rw (s .returns .answer) (answer-read (heldBy (l .words) (l .memory)) (held-four (l .words) (l .memory)) c v (s .values))
+
+  pub same-step : runOf (lentOf w′ after) (observe c (answerFrom c r v) output o) ≡ stepped (runOf l o) c
+  unfolding stepped
+  same-step = rw (s .returns .next, s .returns .output, answer-told)
 
 pub runs-related : {zone : List ℕ} {l : Lent} {o : Observer} → Runs zone l o → Related (runOf l o)
 runs-related {zone} (begun w w′ before m h) = begun-related zone (heldBy w′ m) (begun-state zone w w′ before m h)
-runs-related (next {l = l} {o = o} past c v w′ after output r h g) =
-    rw (same-step l o c v w′ after output r h g) (step-kept (runOf l o) (runs-related past) c)
+runs-related (next {l = l} {o = o} past c r v w′ after output s) =
+    rw (same-step l o c r v w′ after output s) (step-kept (runOf l o) (runs-related past) c)
 
--- Demand 3 in every run of the C service, for every next call whatever its arguments. What that call leaves is the next
--- step: `same-step`.
-pub demand-three : {zone : List ℕ} {l : Lent} {o : Observer} → Runs zone l o → (c : Call) → Holds (runOf l o) c
-demand-three {zone} {l} {o} past c = holds-of (runOf l o) (runs-related past) c
+-- Demand 3: in every run from a start answered 1, for every next call whatever its arguments, with the number, the values and
+-- the output that the call gave, and what the lent words and memory hold then.
+pub demand-three : {zone : List ℕ} {l : Lent} {o : Observer} → Runs zone l o
+    → (c : Call) (r : ℕ) (v w′ : List ℕ) (after : Memory) (output : List ℕ) → Step l c r v w′ after output
+    → Holds o c (answerFrom c r v) output (heldBy w′ after)
+demand-three {l = l} {o = o} past c r v w′ after output s =
+    rw (s .returns .next, s .returns .output, answer-told l o c r v w′ after output s)
+    (holds-of (runOf l o) (runs-related past) c)
