@@ -1,31 +1,15 @@
 -- What the calls give, from what their parts ensure.
 use Prim.Native.Nat.{ℕ}
 use native.Mathlib.Omega.{arith}
-use mathlib.Core.Bool.{Bool}
-use mathlib.Core.List.{List, [], _∷_, map}
-use mathlib.Core.Option.{Option, none, some}
+use mathlib.Core.List.{List, [], map}
+use mathlib.Core.Option.{none, some}
 use mathlib.Core.Path.{_≡_, refl, sym, ap, _∙_}
 use lib.ListN.{set}
 use Rattle.session.specs.Clocks.{started}
 use Rattle.service.specs.State.{State, Slot, live, lowestFree}
 use Rattle.service.specs.Answer.{opened}
 use Rattle.service.specs.Checks.{refusalOf}
-use Rattle.service.specs.Call.{
-  Call,
-  opens,
-  closes,
-  ticks,
-  brought,
-  lent,
-  refuse,
-  withSlots,
-  passed,
-  outcome,
-  openOutcome,
-  closeOutcome,
-  tickOutcome,
-  endsAt,
-}
+use Rattle.service.specs.Call.{Call, brought, lent, refuse, withSlots, passed, outcome, openOutcome, closeOutcome, tickOutcome, endsAt}
 use Rattle.service.specs.declared.refusal.Refusal.{Refusal}
 use Rattle.service.specs.declared.refusal.Refusal.the-variants.{AllOpen}
 use Rattle.server.specs.declared.state.Server.{Server}

@@ -1,9 +1,9 @@
 -- What start gives.
 use Prim.Native.Nat.{ℕ, _≤_}
 use native.Mathlib.Omega.{arith}
-use mathlib.Core.Bool.{Bool, true, false, cond}
-use mathlib.Core.List.{List, [], _∷_}
-use mathlib.Core.Path.{_≡_, refl, sym, ap, _∙_}
+use mathlib.Core.Bool.{Bool, true, false}
+use mathlib.Core.List.{List}
+use mathlib.Core.Path.{_≡_, sym, ap, _∙_}
 use lib.ListN.{length, take}
 use lib.Seq.{sets}
 use Rattle.wire.specs.Name.{isName, maxName}
@@ -11,7 +11,7 @@ use Rattle.wire.proofs.Names.{isName-length, nameLength-max}
 use Rattle.wire.proofs.Writes.{take-written}
 use Rattle.table.specs.Blocks.{blocks}
 use Rattle.zone.specs.Table.{recordsOf}
-use Rattle.service.specs.State.{State, fresh}
+use Rattle.service.specs.State.{fresh}
 use Rattle.service.specs.Call as Call
 use Rattle.service.specs.declared.refusal.Refusal.the-variants.{NotAName}
 use Rattle.server.specs.declared.state.Server.{Server}

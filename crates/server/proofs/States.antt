@@ -2,13 +2,13 @@
 use Prim.Native.Nat.{ℕ, zero, suc, _≤_}
 use native.Mathlib.Omega.{arith}
 use mathlib.Core.Bool.{Bool, true, false, cond, not}
-use mathlib.Core.List.{List, [], _∷_}
+use mathlib.Core.List.{List, []}
 use mathlib.Core.Path.{_≡_, refl, sym, ap, _∙_}
-use lib.ListN.{getD, set}
+use lib.ListN.{set}
 use Rattle.session.specs.Clocks.{started}
 use Rattle.session.specs.Table.{subscriptionsOf}
 use Rattle.session.proofs.Table.{subscriptionsOf-none}
-use Rattle.service.specs.State.{Slot, free, live, slotAt}
+use Rattle.service.specs.State.{free, live, slotAt}
 use Rattle.service.specs.State as Service
 use Rattle.service.specs.Checks.{isFree}
 use Rattle.service.specs.Call.{withSlots}

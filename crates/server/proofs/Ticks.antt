@@ -1,5 +1,5 @@
 -- What a tick does to the sessions.
-use Prim.Native.Nat.{ℕ, zero, suc, _<_}
+use Prim.Native.Nat.{ℕ, zero, suc}
 use native.Mathlib.Omega.{arith}
 use mathlib.Core.Bool.{Bool, true, false, cond}
 use mathlib.Core.List.{List, [], _∷_, map}
@@ -16,7 +16,7 @@ use Rattle.server.specs.declared.state.Server.{Server}
 use Rattle.server.specs.declared.answer.Flags.{Flags}
 use Rattle.server.specs.Memory.{Memory, slotOf, stateOf}
 use Rattle.server.specs.Answers.{flagsOf}
-use Rattle.server.specs.Numbers.{vacancy, keptOf, sweptBy, atTime}
+use Rattle.server.specs.Numbers.{keptOf, sweptBy, atTime}
 use Rattle.server.proofs.States.{slot-live, slot-dead, slot-vacancy}
 
 -- ---- whether a session ends

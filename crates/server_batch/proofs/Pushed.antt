@@ -1,15 +1,15 @@
 -- A batch: from what editing the store and writing the PUSHes ensure to the outcome of the call.
-use Prim.Native.Nat.{ℕ, zero, suc, _-_, _≤_}
+use Prim.Native.Nat.{ℕ, _-_, _≤_}
 use native.Mathlib.Omega.{arith}
 use mathlib.Core.Bool.{Bool, true, false, cond, not, _&&_}
 use mathlib.Core.List.{List, [], _∷_, _++_, map}
-use mathlib.Core.Option.{Option, none, some}
+use mathlib.Core.Option.{none, some}
 use mathlib.Core.Path.{_≡_, refl, sym, ap, ap₂, subst, _∙_}
 use lib.ListN.{length, take, drop}
 use lib.Seq.{sets}
 use lib.Dec.{eqb}
 use lib.Pow.{areBytes}
-use borrow.Author.Tests.{eq-eqb, ne-eqb, ltb-false}
+use borrow.Author.Tests.{ltb-false}
 use Rattle.wire.specs.Part.{part}
 use Rattle.wire.proofs.Writes.{sets-lent-rest}
 use Rattle.session.specs.Table.{subscriptionsOf}
@@ -17,7 +17,7 @@ use Rattle.zone.specs.Lists.{allOf}
 use Rattle.zone.specs.Record.{Record}
 use Rattle.zone.specs.Match.{Subscription}
 use Rattle.zone.specs.Table.{recordsOf}
-use Rattle.zone.specs.Batch.{batchOf, Edited, stored, faulty}
+use Rattle.zone.specs.Batch.{batchOf, stored, faulty}
 use Rattle.zone.specs.Batches.{editedOf}
 use Rattle.zone.specs.declared.BatchFault.{BatchFault}
 use Rattle.zone.specs.declared.editing.BatchResult.{BatchResult}
@@ -36,7 +36,6 @@ use Rattle.service.proofs.Checks.{checks-passed}
 use Rattle.service.specs.declared.refusal.Refusal.{Refusal}
 use Rattle.service.specs.declared.refusal.Refusal.the-variants.{Batch}
 use Rattle.server.specs.declared.answer.Answer.{Answer}
-use Rattle.server.specs.declared.answer.Answer.the-variants.{Refused}
 use Rattle.server.specs.declared.answer.Counts.{Counts}
 use Rattle.server.specs.declared.answer.Outcome.{Outcome}
 use Rattle.server.specs.declared.checks.Checked.{Checked}
