@@ -1,4 +1,4 @@
--- Laws of change notifications.
+-- Laws of change notifications, and examples of them by computation.
 pub mod ReadBack
 pub mod Framing
 pub mod Plains
@@ -14,3 +14,4 @@ pub mod Needed
 pub mod Fewest
 pub mod Few
 pub mod Quoted
+pub mod Bench

@@ -18,7 +18,6 @@ use Rattle.dso.specs.Judge.{
   isKeepalive,
   judged,
   keepaliveType,
-  unsubscribeType,
   reconfirmType,
   place,
   keepalive as judgeKeepalive,
@@ -50,7 +49,7 @@ use Rattle.push.specs.Frames.{frameOf, framesIn, isUnidirectional, pushIn}
 use Rattle.session.specs.Clocks.{started, received, granted, expired}
 use Rattle.session.specs.Subscriptions.{usesId, asksAlready, isFull, without}
 use Rattle.service.specs.State.{State, free, slotAt, fresh, lowestFree}
-use Rattle.service.specs.Answer.{Answer, opened, done, sent, ended, reconfirm, refused}
+use Rattle.service.specs.Answer.{Answer, opened, done, sent, aborted, reconfirm, refused}
 use Rattle.service.specs.Checks.{refusalOf, leastOutput}
 use Rattle.service.specs.Message.{asked, subscribed, keptAlive, answered, messageEffect}
 use Rattle.service.specs.Call.{
@@ -99,14 +98,21 @@ use Rattle.service.proofs.Examples.{
   bytes,
   messageOf,
   subscribe,
+  keepalive,
+  unsubscribe,
   puts,
   deletes,
+  lentFrom,
   lent,
+  messageAt,
   message,
   batch,
   outcomes,
   after,
   answers,
+  ticked,
+  stays,
+  ends,
   server,
   ready,
   watched,
@@ -171,6 +177,18 @@ tooLong = bytes (replicate 65536 0)
 abbrev pub asking : State
 asking = watched [] (subscribe 1 host typeAny ∷ [])
 
+-- The same after a Keepalive at 1,000.
+abbrev pub granted0 : State
+granted0 = after asking (message (keepalive 2) ∷ [])
+
+-- A session without a subscription that was opened at 1,000 and got a message at 2,000.
+abbrev pub heard0 : List ℕ → State
+heard0 m = after ready (messageAt 2000 m ∷ [])
+
+-- A session with 16 subscriptions.
+abbrev pub full : State
+full = after ready (map numbered (take 16 oneTo17))
+
 -- Sessions 0 and 1.
 abbrev pub both : State
 both = after ready (opens 1000 ∷ [])
@@ -178,12 +196,13 @@ both = after ready (opens 1000 ∷ [])
 pub record Bench : Type 0 where
   -- "Zone shop.example."
   pub starts : start zone ≡ running server
-  -- 1. "That run": the octets as they are; its answers; and all of the output slice after the message, whose count is 62.
+  -- 1. "That run": the octets as they are; its answers; and all of the output slice after the message, whose count is 62: "Bytes
+  -- beyond a stated count, and other shelves, keep their values."
   pub taken : (bytes paperBatch .list ≡ paperBatch) × (bytes paperMessage .list ≡ paperMessage)
   pub run-answers : answers (outcomes server (opens 1000 ∷ batch paperBatch ∷ message paperMessage ∷ []))
       ≡ opened 0 ∷ done ∷ sent (62 ∷ 0 ∷ 0 ∷ 0 ∷ []) ∷ []
   pub run-octets : outcome (after server (opens 1000 ∷ batch paperBatch ∷ [])) (message paperMessage) .output
-      ≡ paperReply ++ replicate (leastOutput - 62) 0
+      ≡ paperReply ++ lentFrom 62
   -- 2. "Label of 63 read, 64 FORMERR."
   pub label-63 : flagsFor (under 63 zone) ≡ 0xB000
   pub label-64 : flagsFor (under 64 zone) ≡ 0xB001
@@ -196,8 +215,8 @@ pub record Bench : Type 0 where
   pub seventeenth : map replyFlags (outcomes ready (map numbered oneTo17)) ≡ replicate 16 0xB000 ++ (0xB002 ∷ [])
   pub sixteen-live : length (subscriptionsOf (slotAt (after ready (map numbered oneTo17)) 0)) ≡ 16
   -- 5. "Idle from 1,000: tick 30,999 stays, 31,000 ends."
-  pub idle-stays : outcome ready (ticks 30999) .answer ≡ ended (false ∷ false ∷ false ∷ false ∷ [])
-  pub idle-ends : outcome ready (ticks 31000) .answer ≡ ended (true ∷ false ∷ false ∷ false ∷ [])
+  pub idle-stays : outcome ready (ticks 30999) .answer ≡ stays
+  pub idle-ends : outcome ready (ticks 31000) .answer ≡ ends
   pub idle-freed : slotAt (outcome ready (ticks 31000) .next) 0 ≡ free
   -- 6. "SRV and TXT leave, nothing remains: one all-types notice." Its octets too: a PUSH, type 255, TTL 0xFFFFFFFE, RDLEN 0.
   pub all-types : told0 (service ∷ text ∷ []) (deletes (service ∷ text ∷ [])) ≡ some ((removal (allTypes host classIn) ∷ []) ∷ [])
@@ -220,14 +239,14 @@ pub record Bench : Type 0 where
   pub not-auth : flagsFor (drop 5 zone) ≡ 0xB009
   pub not-auth-live : subscriptionsOf (slotAt (outcome ready (message (subscribe 1 (drop 5 zone) typeA)) .next) 0) ≡ []
   -- 12. "Keepalive reply data 00003A98 0000EA60", whatever was asked for.
-  pub keepalive-reply : sent0 (outcome ready (message (messageOf 1 keepaliveType (octets 8 0))))
+  pub keepalive-reply : sent0 (outcome ready (message (keepalive 1)))
       ≡ octets 26 0x00180001b00000000000000000000001000800003a980000ea60
   -- 13. "Time 5 after 6: answer 11." "Checks run 12, 11, 10, 18": of the faults of a call the first decides; "13 comes after 11".
   pub order : map answerOf (receives 5 9 tooLong [] ∷ receives 5 9 tooLong lent ∷ receives 6 9 tooLong lent ∷ receives 6 0 tooLong lent ∷ [])
       ≡ map refused (OutputTooShort ∷ TimeBackwards ∷ NoSession ∷ MessageTooLong ∷ [])
   pub order-13 : map answerOf (opens 5 ∷ opens 6 ∷ []) ≡ map refused (TimeBackwards ∷ AllOpen ∷ [])
   -- "Answering a unidirectional message" is an error: UNSUBSCRIBE is answer 1, and RECONFIRM 5, with the places of its parts.
-  pub unsubscribed : outcome asking (message (messageOf 0 unsubscribeType (octets 2 1))) .answer ≡ done
+  pub unsubscribed : outcome asking (message (unsubscribe 1)) .answer ≡ done
   pub reconfirmed : outcome asking (message (messageOf 0 reconfirmType (host ++ octets 8 0x00010001c0000201))) .answer
       ≡ reconfirm
       (record {
@@ -247,6 +266,32 @@ pub record Bench : Type 0 where
       ≡ withTtl 60 address ∷ text ∷ []
   pub spelled-push : pushed (capitals0 60) ≡ some ((addition (withTtl 60 address) ∷ []) ∷ [])
   pub spelled-only : capitals0 120 .answer ≡ done
+  -- ---- rules that demand 3 leaves open
+  -- "reply carries 15,000 and 60,000 ms, which then hold": with a live subscription, before a Keepalive at 1,000 and after it.
+  pub interval-first : ticked asking (30999 ∷ 31000 ∷ []) ≡ stays ∷ ends ∷ []
+  pub interval-held : ticked granted0 (120999 ∷ 121000 ∷ []) ≡ stays ∷ ends ∷ []
+  -- "A received message not ending in abort restarts both; one that reaches step 4 with type 1 restarts the keepalive clock
+  -- only": an UNSUBSCRIBE, then a Keepalive and one whose data is malformed.
+  pub both-restarted : ticked (heard0 (unsubscribe 9)) (31999 ∷ 32000 ∷ []) ≡ stays ∷ ends ∷ []
+  pub one-restarted : ticked (heard0 (keepalive 1)) (30999 ∷ 31000 ∷ []) ≡ stays ∷ ends ∷ []
+  pub one-restarted-malformed : ticked (heard0 (messageOf 1 keepaliveType [])) (30999 ∷ 31000 ∷ []) ≡ stays ∷ ends ∷ []
+  -- "or, with no live subscription, elapsed inactivity is at least the greater of 5,000 and twice the timeout": with one, and
+  -- where it has ended.
+  pub subscriber-stays : ticked granted0 (31000 ∷ []) ≡ stays ∷ []
+  pub unsubscribed-ends : ticked (after granted0 (message (unsubscribe 1) ∷ [])) (30999 ∷ 31000 ∷ []) ≡ stays ∷ ends ∷ []
+  -- "a type 1 or 0x0040 whose data is malformed: FORMERR. Then an ID held by one of the session's subscriptions: abort.": before
+  -- NOTAUTH too.
+  pub used-by-subscribe : outcome asking (message (subscribe 1 host typeA)) .answer ≡ aborted
+  pub used-by-outside : outcome asking (message (subscribe 1 (drop 5 zone) typeA)) .answer ≡ aborted
+  pub used-by-keepalive : outcome asking (message (keepalive 1)) .answer ≡ aborted
+  pub used-and-malformed : replyFlags (outcome asking (message (messageOf 1 keepaliveType []))) ≡ 0xB001
+  -- "Name not at or below the zone: NOTAUTH (9). Same name, type and class as a live one: abort. 16 live already: SERVFAIL (2)."
+  pub same-question : outcome asking (message (subscribe 2 hostInCapitals typeAny)) .answer ≡ aborted
+  pub same-question-full : outcome full (message (subscribe 17 host 1)) .answer ≡ aborted
+  pub outside-full : replyFlags (outcome full (message (subscribe 17 (drop 5 zone) 1))) ≡ 0xB009
+  -- "Bytes beyond a stated count, and other shelves, keep their values": all of the output slice after a batch; its PUSH is that
+  -- of the run in 01.
+  pub batch-octets : edited0 [] (puts (address ∷ [])) .output ≡ drop 14 paperReply ++ lentFrom 48
 
 pub bench : Bench
 unfolding octets field labels nameLength isName lower sameOctets sameName endsIn within messageId flags isResponse opcode noRecords tlvs tlvsFrom badForm formOf opening byType judgment isKeepalive judged judgeSubscribe judgeKeepalive judgeUnsubscribe judgeReconfirm header tlvOctets tlvsOctets framed response responseOctets asksFor asksType asksClass sameKey find held put remove size recordOctets readAfter readRecord matchesKey allowed overfull edit edited batchOf covers isTrue fieldsOf widest alike chosen firsts removals additions changes changesOctets pushMessage pushOctets pushOf notified changesIn frameOf framesIn isUnidirectional pushIn started received granted expired without usesId asksAlready isFull fresh lowestFree refusalOf asked subscribed keptAlive answered messageEffect start written openOutcome effectOutcome messageOutcome closeOutcome batchOutcome tickOutcome passed outcome bytesFor pushesIn bytes puts outcomes after
@@ -286,4 +331,19 @@ bench =
       spelled-store = refl;
       spelled-push = refl;
       spelled-only = refl;
+      interval-first = refl;
+      interval-held = refl;
+      both-restarted = refl;
+      one-restarted = refl;
+      one-restarted-malformed = refl;
+      subscriber-stays = refl;
+      unsubscribed-ends = refl;
+      used-by-subscribe = refl;
+      used-by-outside = refl;
+      used-by-keepalive = refl;
+      used-and-malformed = refl;
+      same-question = refl;
+      same-question-full = refl;
+      outside-full = refl;
+      batch-octets = refl;
     }

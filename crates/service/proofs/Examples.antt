@@ -1,6 +1,6 @@
 -- What the bench examples are made of: names, records, messages, calls, and runs of a server for shop.example.
-use Prim.Native.Nat.{ℕ, _%_}
-use mathlib.Core.Bool.{Bool, true, _&&_}
+use Prim.Native.Nat.{ℕ, _%_, _-_}
+use mathlib.Core.Bool.{Bool, true, false, _&&_}
 use mathlib.Core.List.{List, [], _∷_, _++_, map}
 use mathlib.Core.Option.{Option}
 use mathlib.Core.Path.{_≡_, refl, ap₂}
@@ -11,7 +11,7 @@ use lib.Pow.{areBytes}
 use borrow.Author.Tests.{lt-ltb}
 use Rattle.wire.specs.Field.{octets}
 use Rattle.dso.specs.Header.{flags}
-use Rattle.dso.specs.Judge.{subscribeType}
+use Rattle.dso.specs.Judge.{keepaliveType, subscribeType, unsubscribeType}
 use Rattle.dso.specs.Response.{header, tlvsOctets}
 use Rattle.zone.specs.Record.{Record}
 use Rattle.zone.specs.Match.{Subscription}
@@ -21,9 +21,9 @@ use Rattle.zone.specs.Layout.{recordOctets}
 use Rattle.push.specs.Change.{Change}
 use Rattle.push.specs.Octets.{unidirectionalFlags}
 use Rattle.service.specs.State.{State, Slot, free, live, fresh}
-use Rattle.service.specs.Answer.{Answer}
+use Rattle.service.specs.Answer.{Answer, ended}
 use Rattle.service.specs.Checks.{leastOutput}
-use Rattle.service.specs.Call.{Bytes, Call, opens, receives, edits, Outcome, outcome}
+use Rattle.service.specs.Call.{Bytes, Call, opens, receives, edits, ticks, Outcome, outcome}
 use Rattle.service.specs.Reader.{bytesFor, pushesIn}
 
 -- ---- names, types and records
@@ -96,6 +96,13 @@ messageOf id kind value = header id unidirectionalFlags ++ tlvsOctets (record { 
 abbrev pub subscribe : ℕ → List ℕ → ℕ → List ℕ
 subscribe id name rrtype = messageOf id subscribeType (name ++ (octets 2 rrtype ++ octets 2 classIn))
 
+-- A Keepalive: an ID; the values asked for are 0. An UNSUBSCRIBE: the ID of a subscription.
+abbrev pub keepalive : ℕ → List ℕ
+keepalive id = messageOf id keepaliveType (octets 8 0)
+
+abbrev pub unsubscribe : ℕ → List ℕ
+unsubscribe id = messageOf 0 unsubscribeType (octets 2 id)
+
 -- Edits: each record is put; each is deleted.
 unfoldable pub puts : List Record → List ℕ
 puts [] = []
@@ -106,13 +113,19 @@ deletes l = puts (map (withTtl removeTtl) l)
 
 -- ---- calls and runs
 
--- The output slice as it is lent.
-abbrev pub lent : List ℕ
-lent = replicate leastOutput 0
+-- The output slice as it is lent, from its n-th byte on: not 0, so that a 0 written beyond a count is seen.
+abbrev pub lentFrom : ℕ → List ℕ
+lentFrom n = replicate (leastOutput - n) 0xee
 
--- Session 0's message, and a batch, at 1,000.
+abbrev pub lent : List ℕ
+lent = lentFrom 0
+
+-- Session 0's message at a time; one, and a batch, at 1,000.
+abbrev pub messageAt : ℕ → List ℕ → Call
+messageAt t m = receives t 0 (bytes m) lent
+
 abbrev pub message : List ℕ → Call
-message m = receives 1000 0 (bytes m) lent
+message m = messageAt 1000 m
 
 abbrev pub batch : List ℕ → Call
 batch l = edits 1000 (bytes l) lent
@@ -128,6 +141,16 @@ after st (c ∷ cs) = after (outcome st c .next) cs
 
 abbrev pub answers : List Outcome → List Answer
 answers l = map (λ (x : Outcome). x .answer) l
+
+-- The answer to each of several ticks, each the next call; that session 0, the only one, stays, and that it is ended.
+abbrev pub ticked : State → List ℕ → List Answer
+ticked st times = map (λ (t : ℕ). outcome st (ticks t) .answer) times
+
+abbrev pub stays : Answer
+stays = ended (replicate 4 false)
+
+abbrev pub ends : Answer
+ends = ended (true ∷ replicate 3 false)
 
 -- A server that was started with the zone, and opened session 0 at 1,000.
 abbrev pub server : State

@@ -1,4 +1,4 @@
--- Laws of the zone, for the layers above.
+-- Laws of the zone, for the layers above, and examples by computation.
 pub mod Lists
 pub mod Keys
 pub mod Stores
@@ -15,3 +15,4 @@ pub mod Filled
 pub mod Applies
 pub mod Readings
 pub mod Steps
+pub mod Bench
