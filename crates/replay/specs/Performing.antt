@@ -1,8 +1,7 @@
 -- The call that a line makes, as the code has it.
-use Prim.Native.Nat.{_<_}
+use Prim.Native.Nat.{ℕ, _<_}
 use mathlib.Core.List.{List}
 use mathlib.Core.Path.{_≡_}
-use Prim.Native.Nat.{ℕ}
 use Rattle.server.specs.Memory.{Memory, stateOf}
 use Rattle.server.specs.Answers.{lastAccepted}
 use Rattle.server.specs.declared.answer.Outcome.{Outcome}

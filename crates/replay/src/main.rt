@@ -4,10 +4,10 @@ mod input;
 mod respond;
 
 use input::Input;
-use input::Place;
+use input::Progress;
 use input::held_line;
 use input::idle;
-use input::next_line;
+use input::resume;
 use respond::respond;
 use script::Line;
 use server::Name;
@@ -17,8 +17,52 @@ use server::start;
 use table::part;
 use transcript::Text;
 
+// Reads once. Where the input ended, the last line's LF may be missing; where a read fails, a line that is not whole is dropped.
+fn refill(held: usize, input: &mut Input) -> Progress {
+    let got = libc::read(0, input);
+    if got < 0 {
+        os::fail(b"replay: standard input");
+        return idle(false);
+    }
+    let n = io::count(got, input);
+    Progress {
+        end: n,
+        used: 0,
+        held,
+        ready: n == 0 && held > 0,
+        more: n > 0,
+    }
+}
+
+// What is left of the chunk, and the next one where the line goes on.
+fn advance(p: Progress, input: &mut Input, line: &mut Line) -> Progress {
+    let q = resume(p, input, line);
+    if q.ready {
+        return q;
+    }
+    refill(q.held, input)
+}
+
+// Fills the line. A proved loop has to end, and nothing says that the input does: the turns are counted down, from a number that
+// no run uses up.
+fn next_line(p: Progress, input: &mut Input, line: &mut Line) -> Progress {
+    let mut q = Progress {
+        end: p.end,
+        used: p.used,
+        held: 0,
+        ready: false,
+        more: p.more,
+    };
+    let mut turns = u64::MAX;
+    while turns > 0 && q.more && !q.ready {
+        q = advance(q, input, line);
+        turns -= 1;
+    }
+    q
+}
+
 // Writes the lines of an answer and takes the next line of input. Where a write fails, the program stops.
-fn print(text: &Text, n: usize, p: Place, input: &mut Input, line: &mut Line) -> Place {
+fn print(text: &Text, n: usize, p: Progress, input: &mut Input, line: &mut Line) -> Progress {
     if !io::write_all(1, part(text, 0, n)) {
         os::fail(b"replay: standard output");
         return idle(false);
@@ -26,8 +70,9 @@ fn print(text: &Text, n: usize, p: Place, input: &mut Input, line: &mut Line) ->
     next_line(p, input, line)
 }
 
-// Each line in turn: what is written for it is `transcript/Responses.responseTo` of what the lines before it left. However the
-// input comes in chunks, the lines that are cut from it are its lines: `transcript/Responding.replayed-chunks`.
+// Answers each line in turn, with what the lines before it left: `respond` promises the lines that are written for it
+// (`transcript/Responses.responseTo`). However the input comes in chunks, what is cut from it (`resume`) is answered as its lines
+// are: `transcript/Responding.replayed-chunks`. What goes through the descriptors no contract can say.
 fn replay(start: Server, zone: &Name) {
     let mut first = [0u8; zone::AREA];
     let mut second = [0u8; zone::AREA];

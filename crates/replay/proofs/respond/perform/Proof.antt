@@ -22,14 +22,14 @@ returns-3 : tie.Need-returns-3
 returns-3 c =
     let a = c .before .before .before .before .before .before .before .before .before .before .before .before .before .before .args in
     let m = memoryOf (a .zone .now) (a .first .now) (a .second .now) (a .s0 .now) (a .s1 .now) (a .s2 .now) (a .s3 .now) in
-    heard (a .server) m _ (a .bytes .now) (a .out .now) _ (a .command) _ _ (c .told3 .ensures) _ _ _ (c .before .before .before .before .before .before .before .before .before .before .before .before .command3 .given .1) _ (c .before .before .before .part .ensures)
+    heard (a .server) m (memoryOf (a .zone .now) (a .first .now) (a .second .now) _ _ _ _) (a .bytes .now) (a .out .now) _ (a .command) _ _ (c .told3 .ensures) _ _ _ (c .before .before .before .before .before .before .before .before .before .before .before .before .command3 .given .1) _ (c .before .before .before .part .ensures)
     (c .before .message .ensures .0)
 
 returns-4 : tie.Need-returns-4
 returns-4 c =
     let a = c .before .before .before .before .before .before .before .before .before .before .before .before .before .before .args in
     let m = memoryOf (a .zone .now) (a .first .now) (a .second .now) (a .s0 .now) (a .s1 .now) (a .s2 .now) (a .s3 .now) in
-    edited (a .server) m _ (a .bytes .now) (a .out .now) _ (a .command) _ _ (c .told4 .ensures) _ _ (c .before .before .before .before .before .before .before .before .before .before .before .before .command4 .given .1) _ (c .before .before .before .part2 .ensures)
+    edited (a .server) m (memoryOf (a .zone .now) _ _ (a .s0 .now) (a .s1 .now) (a .s2 .now) (a .s3 .now)) (a .bytes .now) (a .out .now) _ (a .command) _ _ (c .told4 .ensures) _ _ (c .before .before .before .before .before .before .before .before .before .before .before .before .command4 .given .1) _ (c .before .before .before .part2 .ensures)
     (c .before .batch .ensures .0)
 
 returns-5 : tie.Need-returns-5
@@ -49,22 +49,22 @@ perform-spec =
     tie.close
     (tie.spec
     (λ c. search needs)
-    (λ c κs. search needs)
-    (λ c κs. search needs)
+    (λ c κs. tt)
+    (λ c κs. tt)
     (λ c. search needs)
-    (λ c κs. search needs)
-    (λ c κs. search needs)
+    (λ c κs. tt)
+    (λ c κs. tt)
     (λ c. search needs)
-    (λ c κs. search needs)
-    (λ c κs. search needs)
-    (λ c κs. search needs)
+    (λ c κs. tt)
+    (λ c κs. tt)
+    (λ c κs. tt)
     (λ c. search needs)
-    (λ c κs. search needs)
-    (λ c κs. search needs)
-    (λ c κs. search needs)
+    (λ c κs. tt)
+    (λ c κs. tt)
+    (λ c κs. tt)
     (λ c. search needs)
-    (λ c κs. search needs)
-    (λ c κs. search needs)
+    (λ c κs. tt)
+    (λ c κs. tt)
     (λ c. search needs)
     returns
     returns-2

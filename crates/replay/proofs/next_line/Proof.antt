@@ -1,7 +1,7 @@
--- `replay::input::next_line` is safe and ends: the turns are counted down. Assumes nothing.
+-- `replay::next_line` is safe and ends: the turns are counted down. Assumes nothing.
 use borrow.Author.Needs.{needs}
-use Rattle.replay.proofs.input.next_line.Statement.{statement}
-use Rattle.replay.proofs.input.next_line.Tie as tie
+use Rattle.replay.proofs.next_line.Statement.{statement}
+use Rattle.replay.proofs.next_line.Tie as tie
 
 abbrev Inv-loop : tie.InvT-loop
 Inv-loop input₀ line₀ q₀ turns₀ input line q turns = Unit {0}
