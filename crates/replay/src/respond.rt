@@ -1,10 +1,7 @@
 // One line of input, answered.
 use script::Bytes;
 use script::Command;
-use script::SessionField;
-use script::Verb;
 use script::read_line;
-use script::write_line;
 use server::Name;
 use server::Outcome;
 use server::Server;
@@ -15,9 +12,24 @@ use server_batch::batch;
 use server_message::message;
 use service::SessionNumber;
 use table::part;
+use transcript::Answered;
 use transcript::Output;
 use transcript::Text;
-use transcript::write_lines;
+use transcript::write_response;
+ghost use mathlib.Core.Path.{_≡_};
+ghost use mathlib.Core.Bool.{true};
+ghost use lib.Pow.{areBytes};
+ghost use Rattle.script.specs.Line.{octetsIn};
+ghost use Rattle.script.specs.Code.{commandLine};
+ghost use Rattle.server.specs.Memory.{memoryOf, stateOf};
+ghost use Rattle.transcript.specs.Responses.{stepOf, responseTo, Tells};
+ghost use Rattle.replay.specs.Performing.{toldOf, Performs};
+
+// The server's numbers as they are then, and what came of the line.
+pub struct Performed {
+    pub server: Server,
+    pub answer: Answered,
+}
 
 // The server's numbers as they are then, and how many octets of lines stand at the front of the text.
 pub struct Response {
@@ -25,105 +37,77 @@ pub struct Response {
     pub length: usize,
 }
 
-fn told(
-    verb: Verb,
-    own: SessionField,
-    outcome: Outcome,
-    out: &Output,
-    text: &mut Text,
-) -> Response {
-    let answer = outcome.answer;
+fn told(outcome: Outcome) -> Performed
+    ensures { λ r. ⌜ r ≡ toldOf outcome ⌝ }
+{
     let server = outcome.server;
-    Response {
+    let answer = outcome.answer;
+    Performed {
         server,
-        length: write_lines(verb, own, answer, out, text),
+        answer: Answered::Told(answer),
     }
 }
 
-// Of a call that names no session.
-fn told_of_all(verb: Verb, outcome: Outcome, out: &Output, text: &mut Text) -> Response {
-    told(verb, SessionField::NoSession, outcome, out, text)
-}
-
-fn respond_close(server: Server, t: u64, session: u64, out: &Output, text: &mut Text) -> Response {
-    let outcome = close(server, t, SessionNumber(session));
-    let own = SessionField::Session(session);
-    told(Verb::Close, own, outcome, out, text)
-}
-
-// 01: an unreadable line "writes ?, 19, -, -".
-fn unreadable(server: Server, out: &Output, text: &mut Text) -> Response {
-    let none = SessionField::NoSession;
-    let length = write_line(text, 0, Verb::Unknown, 19, none, out, false);
-    Response { server, length }
-}
-
-fn respond_message(
-    server: Server,
-    zone: &Name,
-    first: &zone::Area,
-    second: &zone::Area,
-    s0: &mut session::Area,
-    s1: &mut session::Area,
-    s2: &mut session::Area,
-    s3: &mut session::Area,
-    time: u64,
-    session: u64,
-    m: &[u8],
-    out: &mut Output,
-    text: &mut Text,
-) -> Response {
-    let outcome = message(
-        server,
-        zone,
-        first,
-        second,
-        s0,
-        s1,
-        s2,
-        s3,
-        time,
-        SessionNumber(session),
-        m,
-        out,
-    );
-    told(
-        Verb::Message,
-        SessionField::Session(session),
-        outcome,
-        out,
-        text,
-    )
-}
-
-fn respond_batch(
+// Makes the call that a line is.
+fn perform(
     server: Server,
     zone: &Name,
     first: &mut zone::Area,
     second: &mut zone::Area,
-    s0: &session::Area,
-    s1: &session::Area,
-    s2: &session::Area,
-    s3: &session::Area,
-    time: u64,
-    edits: &[u8],
+    s0: &mut session::Area,
+    s1: &mut session::Area,
+    s2: &mut session::Area,
+    s3: &mut session::Area,
+    command: Command,
+    bytes: &Bytes,
     out: &mut Output,
-    text: &mut Text,
-) -> Response {
-    let outcome = batch(
-        server,
-        zone,
-        first,
-        second,
-        s0,
-        s1,
-        s2,
-        s3,
-        time,
-        edits,
-        out,
-    );
-    told_of_all(Verb::Batch, outcome, out, text)
+) -> Performed
+    ensures { λ r. ⌜ ((small : areBytes (octetsIn (commandLine command (now (bytes .entry)))) ≡ true) →
+        Performs server r
+        (memoryOf (now (zone .entry)) (now (first .exit)) (now (second .exit))
+        (now (s0 .exit)) (now (s1 .exit)) (now (s2 .exit)) (now (s3 .exit)))
+        (now (out .exit))
+        (stepOf
+        (stateOf server (memoryOf (now (zone .entry)) (now (first .entry)) (now (second .entry))
+        (now (s0 .entry)) (now (s1 .entry)) (now (s2 .entry)) (now (s3 .entry))))
+        (now (out .entry)) (commandLine command (now (bytes .entry))) small)) ⌝ }
+{
+    match command {
+        Command::Open(t) => told(open(server, t)),
+        Command::Close(t, s) => told(close(server, t, SessionNumber(s))),
+        Command::Message(t, s, n) => told(message(
+            server,
+            zone,
+            first,
+            second,
+            s0,
+            s1,
+            s2,
+            s3,
+            t,
+            SessionNumber(s),
+            part(bytes, 0, n),
+            out,
+        )),
+        Command::Batch(t, n) => told(batch(
+            server,
+            zone,
+            first,
+            second,
+            s0,
+            s1,
+            s2,
+            s3,
+            t,
+            part(bytes, 0, n),
+            out,
+        )),
+        Command::Tick(t) => told(tick(server, t)),
+        Command::Unreadable => Performed {
+            server,
+            answer: Answered::Unread,
+        },
+    }
 }
 
 pub fn respond(
@@ -139,40 +123,34 @@ pub fn respond(
     bytes: &mut Bytes,
     out: &mut Output,
     text: &mut Text,
-) -> Response {
-    match read_line(line, bytes) {
-        Command::Open(t) => told_of_all(Verb::Open, open(server, t), out, text),
-        Command::Close(t, s) => respond_close(server, t, s, out, text),
-        Command::Message(t, s, n) => respond_message(
-            server,
-            zone,
-            first,
-            second,
-            s0,
-            s1,
-            s2,
-            s3,
-            t,
-            s,
-            part(bytes, 0, n),
-            out,
-            text,
-        ),
-        Command::Batch(t, n) => respond_batch(
-            server,
-            zone,
-            first,
-            second,
-            s0,
-            s1,
-            s2,
-            s3,
-            t,
-            part(bytes, 0, n),
-            out,
-            text,
-        ),
-        Command::Tick(t) => told_of_all(Verb::Tick, tick(server, t), out, text),
-        Command::Unreadable => unreadable(server, out, text),
+) -> Response
+    ensures { λ r. ⌜ Tells server (r .server)
+        (memoryOf (now (zone .entry)) (now (first .exit)) (now (second .exit))
+        (now (s0 .exit)) (now (s1 .exit)) (now (s2 .exit)) (now (s3 .exit)))
+        (now (out .exit)) (now (text .entry)) (now (text .exit)) (r .length)
+        (responseTo
+        (stateOf server (memoryOf (now (zone .entry)) (now (first .entry)) (now (second .entry))
+        (now (s0 .entry)) (now (s1 .entry)) (now (s2 .entry)) (now (s3 .entry))))
+        (now (out .entry)) (now (line .entry))) ⌝ }
+{
+    let command = read_line(line, bytes);
+    let done = perform(
+        server,
+        zone,
+        first,
+        second,
+        s0,
+        s1,
+        s2,
+        s3,
+        command,
+        bytes,
+        out,
+    );
+    let answer = done.answer;
+    let next = done.server;
+    Response {
+        server: next,
+        length: write_response(command, answer, out, text),
     }
 }

@@ -1,6 +1,7 @@
--- Laws of the lines' definitions: numbers and octets read back, fields parted and joined, and how the loops go.
+-- Laws of the lines' definitions: numbers and octets read back, octets below 256, fields parted and joined, and how the loops go.
 pub mod Bench
 pub mod Bytes
+pub mod Carrying
 pub mod Digits
 pub mod Lines
 pub mod Numbers

@@ -67,6 +67,15 @@ lineOfFields (v ∷ fs) = spoken (verbOf v) fs
 unfoldable pub lineOf : List ℕ → Line
 lineOf l = cond (leb (length l) maxLine) (lineOfFields (fields l)) Line.unreadable
 
+-- The octets that a line carries, if it does.
+abbrev pub octetsIn : Line → List ℕ
+octetsIn (Line.opening t) = []
+octetsIn (Line.closing t s) = []
+octetsIn (Line.message t s l) = l
+octetsIn (Line.batch t l) = l
+octetsIn (Line.ticking t) = []
+octetsIn Line.unreadable = []
+
 -- The text of a line, in the same format. (An unreadable one has none.)
 unfoldable pub lineFields : Line → List (List ℕ)
 lineFields (Line.opening t) = verbText Open ∷ decimal t ∷ []

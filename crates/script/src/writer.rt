@@ -140,7 +140,8 @@ fn put_front(out: &mut [u8], at: usize, verb: Verb, answer: u32) -> usize
 
 // The octets, or none to write, and the end of the line.
 fn put_back(out: &mut [u8], at: usize, bytes: &[u8], carries: bool) -> usize
-    ensures { λ r. ⌜ Written (now (out .entry)) at ((tab ∷ bytesOctets (carried carries (now (bytes .entry)))) ++ (lf ∷ [])) (now (out .exit)) r ⌝ }
+    ensures { λ r. ⌜ Written (now (out .entry)) at ((tab ∷ bytesOctets (carried carries (now (bytes .entry)))) ++ (lf ∷ []))
+        (now (out .exit)) r ⌝ }
 {
     let a = put_bytes(out, at, bytes, carries);
     put(out, a, b"\n")
@@ -156,7 +157,8 @@ pub fn write_line(
     bytes: &[u8],
     carries: bool,
 ) -> usize
-    ensures { λ r. ⌜ Written (now (out .entry)) at (lineOctets verb answer (sessionOf session) (carried carries (now (bytes .entry)))) (now (out .exit)) r ⌝ }
+    ensures { λ r. ⌜ Written (now (out .entry)) at (lineOctets verb answer (sessionOf session) (carried carries (now (bytes .entry))))
+        (now (out .exit)) r ⌝ }
 {
     let a = put_front(out, at, verb, answer);
     let b = put_session(out, a, session);

@@ -3,3 +3,4 @@ pub mod Noting
 pub mod Telling
 pub mod Fits
 pub mod Cutting
+pub mod Responding

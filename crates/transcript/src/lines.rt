@@ -102,7 +102,8 @@ fn tells_all(verb: Verb) -> bool
 
 fn write_either(verb: Verb, own: SessionField, answer: Answer, out: &[u8], text: &mut [u8]) -> usize
     requires { ⌜ (length (now out) ≤ leastOutput) × (textRoom ≤ length (now text)) ⌝ }
-    ensures { λ r. ⌜ Printed (now (text .entry)) (linesOf verb (sessionOf own) (answerOf answer) (now (out .entry))) (now (text .exit)) r ⌝ }
+    ensures { λ r. ⌜ Printed (now (text .entry)) (linesOf verb (sessionOf own) (answerOf answer) (now (out .entry)))
+        (now (text .exit)) r ⌝ }
 {
     if tells_all(verb) {
         return write_for_all(verb, answer, out, text);
@@ -124,7 +125,8 @@ pub fn write_lines(
     out: &Output,
     text: &mut Text,
 ) -> usize
-    ensures { λ r. ⌜ Printed (now (text .entry)) (linesOf verb (sessionOf own) (answerOf answer) (now (out .entry))) (now (text .exit)) r ⌝ }
+    ensures { λ r. ⌜ Printed (now (text .entry)) (linesOf verb (sessionOf own) (answerOf answer) (now (out .entry)))
+        (now (text .exit)) r ⌝ }
 {
     write_either(verb, own, answer, out, text)
 }

@@ -87,7 +87,8 @@ pub fn write_for_one(
     out: &[u8],
     text: &mut [u8],
 ) -> usize
-    ensures { λ r. ⌜ Written (now (text .entry)) 0 (lineForOne verb (sessionOf own) (answerOf answer) (now (out .entry))) (now (text .exit)) r ⌝ }
+    ensures { λ r. ⌜ Written (now (text .entry)) 0 (lineForOne verb (sessionOf own) (answerOf answer) (now (out .entry)))
+        (now (text .exit)) r ⌝ }
 {
     let number = answer_number(answer);
     let session = named(own, answer);

@@ -1,0 +1,108 @@
+-- What a line gives: how the code comes to it, and that what is not kept of a line makes no difference.
+use Prim.Native.Nat.{ℕ, _≤_, _<_}
+use mathlib.Core.Path.{_≡_, refl, sym, ap, ap₂, _∙_, subst}
+use mathlib.Core.Bool.{true, false}
+use mathlib.Core.List.{List, [], _∷_, _++_, map}
+use mathlib.Core.Option.{Option, none, some}
+use native.Mathlib.Omega.{arith}
+use lib.ListN.{length}
+use lib.Pow.{areBytes}
+use Rattle.service.specs.State.{State}
+use Rattle.service.specs.Call.{outcome, brought, passed}
+use Rattle.server.specs.Answers.{answerOf}
+use Rattle.server.specs.declared.answer.Answer.{Answer}
+use Rattle.script.specs.Line.{Line, lineOf, octetsIn}
+use Rattle.script.specs.Code.{Written, commandLine, sessionOf}
+use Rattle.script.specs.Stream.{linesIn, kept}
+use Rattle.script.specs.declared.verb.Verb.{Verb}
+use Rattle.script.specs.declared.verb.Verb.the-variants.{Unknown}
+use Rattle.script.specs.declared.reader.Command.{Command}
+use Rattle.script.specs.declared.reader.Command.the-variants.{Open, Close, Message, Batch, Tick, Unreadable}
+use Rattle.script.specs.declared.writer.SessionField.{SessionField}
+use Rattle.script.proofs.Carrying.{line-small}
+use Rattle.script.proofs.Writing.{length-line}
+use Rattle.transcript.specs.Lines.{linesOf, textRoom, Printed}
+use Rattle.transcript.specs.Chunks.{Reads, unended, joined}
+use Rattle.transcript.specs.Code.{answeredOf}
+use Rattle.transcript.specs.Responses.{verbIn, ownIn, stepOf, numberTold, unreadLine, linesTold, telling, responseTo, replayed}
+use Rattle.transcript.specs.declared.response.Answered.{Answered}
+use Rattle.transcript.specs.declared.response.Answered.the-variants.{Told, Unread}
+use Rattle.transcript.proofs.Cutting.{cut-lines, kept-read}
+
+-- ---- the lines
+
+-- A command's verb and session don't depend on what stands in the memory for its octets.
+module _ (c d : Command) (e : c ≡ d) where
+  pub verb-as : (v : Verb) → v ≡ verbIn (commandLine d []) → (o : List ℕ) → v ≡ verbIn (commandLine c o)
+  verb-as v f o = f ∙ any-verb d ∙ ap (λ (x : Command). verbIn (commandLine x o)) (sym e)
+    where
+      any-verb : (x : Command) → verbIn (commandLine x []) ≡ verbIn (commandLine x o)
+      any-verb (Open t) = refl
+      any-verb (Close t s) = refl
+      any-verb (Message t s n) = refl
+      any-verb (Batch t n) = refl
+      any-verb (Tick t) = refl
+      any-verb Unreadable = refl
+
+  pub own-as : (f : SessionField) → sessionOf f ≡ ownIn (commandLine d []) → (o : List ℕ) → sessionOf f ≡ ownIn (commandLine c o)
+  own-as f g o = g ∙ any-own d ∙ ap (λ (x : Command). ownIn (commandLine x o)) (sym e)
+    where
+      any-own : (x : Command) → ownIn (commandLine x []) ≡ ownIn (commandLine x o)
+      any-own (Open t) = refl
+      any-own (Close t s) = refl
+      any-own (Message t s n) = refl
+      any-own (Batch t n) = refl
+      any-own (Tick t) = refl
+      any-own Unreadable = refl
+
+module _ (c : Command) (x : Answered) (out text p : List ℕ) (r : ℕ) where
+  pub told-lines : (a : Answer) → x ≡ Told a → (v : Verb) → ((o : List ℕ) → v ≡ verbIn (commandLine c o)) → (f : SessionField)
+      → ((o : List ℕ) → sessionOf f ≡ ownIn (commandLine c o)) → Printed text (linesOf v (sessionOf f) (answerOf a) out) p r
+      → (o : List ℕ) → Printed text (linesTold (commandLine c o) (answeredOf x) out) p r
+  unfolding linesTold
+  told-lines a e v f s g w o = rw (e, ← f o, ← g o) w
+
+  pub unread-lines : x ≡ Unread → Printed text unreadLine p r → (o : List ℕ) → Printed text (linesTold (commandLine c o) (answeredOf x) out) p r
+  unfolding linesTold
+  unread-lines e w o = rw e w
+
+pub unread-printed : (o p : List ℕ) (r : ℕ) → textRoom ≤ length o → Written o 0 unreadLine p r → Printed o unreadLine p r
+unfolding unreadLine
+unread-printed o p r h w =
+    record { whole = w .whole; count = omega (arith, w .next, length-line Unknown (numberTold none) none false []) }
+
+-- ---- lines of any length
+
+module _ (st : State) (out : List ℕ) where
+  -- That the octets are below 256 may be known in any way.
+  any-small : (line : Line) (p q : areBytes (octetsIn line) ≡ true) → stepOf st out line p ≡ stepOf st out line q
+  unfolding stepOf outcome passed
+  any-small (Line.opening t) p q = refl
+  any-small (Line.closing t s) p q = refl
+  any-small (Line.message t s l) p q = refl
+  any-small (Line.batch t l) p q = refl
+  any-small (Line.ticking t) p q = refl
+  any-small Line.unreadable p q = refl
+
+  same-line : (x : Line) (p : areBytes (octetsIn x) ≡ true) (y : Line) → x ≡ y → (q : areBytes (octetsIn y) ≡ true)
+      → telling x (stepOf st out x p) ≡ telling y (stepOf st out y q)
+  same-line x p y e =
+      subst (λ (z : Line). (q : areBytes (octetsIn z) ≡ true) → telling x (stepOf st out x p) ≡ telling z (stepOf st out z q)) e
+      (λ q. ap (telling x) (any-small x p q))
+
+  pub kept-response : (l : List ℕ) → responseTo st out (kept l) ≡ responseTo st out l
+  unfolding responseTo
+  kept-response l = same-line (lineOf (kept l)) (line-small (kept l)) (lineOf l) (kept-read l) (line-small l)
+
+kept-replayed : (st : State) (out : List ℕ) (ls : List (List ℕ)) → replayed st out (map kept ls) ≡ replayed st out ls
+unfolding replayed
+kept-replayed st out [] = refl
+kept-replayed st out (l ∷ ls) =
+    let e = kept-response st out l in
+    rw e (ap (λ (x : List ℕ). responseTo st out l .lines ++ x) (kept-replayed (responseTo st out l .next) (responseTo st out l .output) ls))
+
+-- However the input comes in chunks, the lines that are cut from it are replayed as those of the whole input.
+pub replayed-chunks : (st : State) (out : List ℕ) (chunks lines : List (List ℕ)) (last : List ℕ) → Reads [] chunks lines last
+    → replayed st out (lines ++ unended last) ≡ replayed st out (linesIn (joined chunks))
+replayed-chunks st out chunks lines last r =
+    ap (replayed st out) (cut-lines chunks lines last r) ∙ kept-replayed st out (linesIn (joined chunks))
