@@ -16,9 +16,10 @@ use Rattle.service.specs.declared.refusal.Refusal.{Refusal}
 use Rattle.server.specs.Memory.{Memory, stateOf}
 use Rattle.server.specs.Answers.{answerOf, lastAccepted, Gives, Serves}
 use Rattle.server.specs.declared.answer.Answer.{Answer}
-use Rattle.server.specs.declared.answer.Answer.the-variants.{Done, Opened, Ended, Sent, NotOurs, Aborted, Reconfirm, Refused}
+use Rattle.server.specs.declared.answer.Answer.the-variants.{Refused}
 use Rattle.server.specs.declared.answer.Outcome.{Outcome}
 use Rattle.server.specs.declared.state.Server.{Server}
+use Rattle.server.proofs.Accepted.{Kind, accepted, refusing, kind}
 use Rattle.script.specs.Line.{Line, lineOf, octetsIn}
 use Rattle.script.specs.Code.{commandLine}
 use Rattle.script.specs.declared.reader.Command.{Command}
@@ -33,15 +34,11 @@ use Rattle.replay.specs.declared.respond.Performed.{Performed}
 
 -- A number over 5 is a refusal's.
 refused-same : (s s′ : Server) (a : Answer) → ((x : Refusal) → a ≡ Refused x → s′ ≡ s) → lastAccepted < answerNumber (answerOf a) → s′ ≡ s
-unfolding answerOf answerNumber
-refused-same s s′ Done h k = absurd (omega arith)
-refused-same s s′ (Opened x) h k = absurd (omega arith)
-refused-same s s′ (Ended f) h k = absurd (omega arith)
-refused-same s s′ (Sent n) h k = absurd (omega arith)
-refused-same s s′ NotOurs h k = absurd (omega arith)
-refused-same s s′ Aborted h k = absurd (omega arith)
-refused-same s s′ (Reconfirm p) h k = absurd (omega arith)
-refused-same s s′ (Refused x) h k = h x refl
+refused-same s s′ a h k = go (kind a)
+  where
+    go : Kind a → s′ ≡ s
+    go (accepted g) = absurd (omega arith)
+    go (refusing x e) = h x e
 
 -- A call gave u, and left the output so.
 performs-told : (s : Server) (u : Outcome) (m : Memory) (x : List ℕ) (w : Call.Outcome) → Gives s u m x w → (o out : List ℕ) → o ≡ out

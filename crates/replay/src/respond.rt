@@ -21,7 +21,7 @@ ghost use mathlib.Core.Bool.{true};
 ghost use lib.Pow.{areBytes};
 ghost use Rattle.script.specs.Line.{octetsIn};
 ghost use Rattle.script.specs.Code.{commandLine};
-ghost use Rattle.server.specs.Memory.{memoryOf, stateOf};
+ghost use Rattle.server.specs.Memory.{memoryNow, stateOf};
 ghost use Rattle.transcript.specs.Responses.{stepOf, responseTo, Tells};
 ghost use Rattle.replay.specs.Performing.{toldOf, Performs};
 
@@ -62,15 +62,12 @@ fn perform(
     bytes: &Bytes,
     out: &mut Output,
 ) -> Performed
-    ensures { λ r. ⌜ ((small : areBytes (octetsIn (commandLine command (now (bytes .entry)))) ≡ true) →
-        Performs server r
-        (memoryOf (now (zone .entry)) (now (first .exit)) (now (second .exit))
-        (now (s0 .exit)) (now (s1 .exit)) (now (s2 .exit)) (now (s3 .exit)))
-        (now (out .exit))
-        (stepOf
-        (stateOf server (memoryOf (now (zone .entry)) (now (first .entry)) (now (second .entry))
-        (now (s0 .entry)) (now (s1 .entry)) (now (s2 .entry)) (now (s3 .entry))))
-        (now (out .entry)) (commandLine command (now (bytes .entry))) small)) ⌝ }
+    ensures { λ r. ⌜ (
+        let before = memoryNow (zone .entry) (first .entry) (second .entry) (s0 .entry) (s1 .entry) (s2 .entry) (s3 .entry) in
+        let after = memoryNow (zone .entry) (first .exit) (second .exit) (s0 .exit) (s1 .exit) (s2 .exit) (s3 .exit) in
+        let line = commandLine command (now (bytes .entry)) in
+        (small : areBytes (octetsIn line) ≡ true)
+        → Performs server r after (now (out .exit)) (stepOf (stateOf server before) (now (out .entry)) line small)) ⌝ }
 {
     match command {
         Command::Open(t) => told(open(server, t)),
@@ -124,14 +121,11 @@ pub fn respond(
     out: &mut Output,
     text: &mut Text,
 ) -> Response
-    ensures { λ r. ⌜ Tells server (r .server)
-        (memoryOf (now (zone .entry)) (now (first .exit)) (now (second .exit))
-        (now (s0 .exit)) (now (s1 .exit)) (now (s2 .exit)) (now (s3 .exit)))
-        (now (out .exit)) (now (text .entry)) (now (text .exit)) (r .length)
-        (responseTo
-        (stateOf server (memoryOf (now (zone .entry)) (now (first .entry)) (now (second .entry))
-        (now (s0 .entry)) (now (s1 .entry)) (now (s2 .entry)) (now (s3 .entry))))
-        (now (out .entry)) (now (line .entry))) ⌝ }
+    ensures { λ r. ⌜ (
+        let before = memoryNow (zone .entry) (first .entry) (second .entry) (s0 .entry) (s1 .entry) (s2 .entry) (s3 .entry) in
+        let after = memoryNow (zone .entry) (first .exit) (second .exit) (s0 .exit) (s1 .exit) (s2 .exit) (s3 .exit) in
+        Tells server (r .server) after (now (out .exit)) (now (text .entry)) (now (text .exit)) (r .length)
+        (responseTo (stateOf server before) (now (out .entry)) (now (line .entry)))) ⌝ }
 {
     let command = read_line(line, bytes);
     let done = perform(

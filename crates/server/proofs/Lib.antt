@@ -3,6 +3,7 @@ pub mod Slices
 pub mod States
 pub mod Vacancies
 pub mod Refusals
+pub mod Accepted
 pub mod Ticks
 pub mod Starts
 pub mod Outcomes

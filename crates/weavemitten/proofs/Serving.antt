@@ -12,10 +12,8 @@ use Rattle.service.specs.Call as Call
 use Rattle.service.specs.Call.{Call, outcome}
 use Rattle.service.specs.declared.refusal.Refusal.{Refusal}
 use Rattle.service.specs.declared.refusal.Refusal.the-variants.{NotAName}
-use Rattle.service.proofs.Quiet.{refusal-above}
 use Rattle.server.specs.declared.state.Server.{Server}
 use Rattle.server.specs.declared.answer.Answer.{Answer}
-use Rattle.server.specs.declared.answer.Answer.the-variants.{Done, Opened, Ended, Sent, NotOurs, Aborted, Reconfirm, Refused}
 use Rattle.server.specs.declared.answer.Outcome.{Outcome}
 use Rattle.server.specs.declared.change.Change.{Change}
 use Rattle.server.specs.declared.change.Change.the-variants.{Opens, Closes, Ends}
@@ -29,6 +27,7 @@ use Rattle.server.specs.Answers.{Gives, Serves, answerOf, lastAccepted, keptBy,
 use Rattle.server.specs.Changes.{changeAnswer, answerBy, decidedBy}
 use Rattle.server.specs.declared.answer.Heard.{Heard}
 use Rattle.server.specs.Starting.{Starts}
+use Rattle.server.proofs.Accepted.{Kind, accepted, refusing, kind, above}
 use Rattle.weavemitten.specs.Words.{serverOf, Saved, SavedSession, SavedDecision}
 use Rattle.weavemitten.specs.Values.{valuesOf}
 use Rattle.weavemitten.specs.Calls.{heldBy, Keeps, Returns, ReturnsWith, Begins}
@@ -72,27 +71,6 @@ module _ (w w′ : List ℕ) where
         held = λ p. h .server;
         unchanged = λ p. decision-refused d (omega arith) (h .unchanged);
       }
-
--- ---- a number above 5 is a refusal's
-
-data Kind (a : Answer) : Type 0 where
-  accepted : answerNumber (answerOf a) ≤ lastAccepted → Kind a
-  refusing : (x : Refusal) → a ≡ Refused x → Kind a
-
-kind : (a : Answer) → Kind a
-unfolding answerNumber answerOf
-kind Done = accepted (omega arith)
-kind (Opened s) = accepted (omega arith)
-kind (Ended f) = accepted (omega arith)
-kind (Sent n) = accepted (omega arith)
-kind NotOurs = accepted (omega arith)
-kind Aborted = accepted (omega arith)
-kind (Reconfirm p) = accepted (omega arith)
-kind (Refused x) = refusing x refl
-
-above : (a : Answer) (x : Refusal) → a ≡ Refused x → lastAccepted < answerNumber (answerOf a)
-unfolding answerNumber answerOf
-above a x e = rw e (refusal-above x)
 
 -- ---- what is returned
 
