@@ -24,7 +24,7 @@ value() (
     *) echo "$text" ;;
     esac
 )
-sizes="-DSOURCE_SESSIONS=$(value server SESSIONS) -DSOURCE_WORDS=$(value weavemitten WORDS) -DSOURCE_VALUES=$(value weavemitten VALUES)"
+sizes="-DSOURCE_SESSIONS=$(value server SESSIONS) -DSOURCE_WORDS=$(value words WORDS) -DSOURCE_VALUES=$(value words VALUES)"
 sizes="$sizes -DSOURCE_OUTPUT=$(value server OUTPUT) -DSOURCE_NAME=$(value server MAX_NAME)"
 sizes="$sizes -DSOURCE_RECORDS=$(value zone AREA) -DSOURCE_SUBSCRIPTIONS=$(value session AREA)"
 

@@ -28,8 +28,8 @@ use Rattle.server.specs.Changes.{changeAnswer, answerBy, decidedBy}
 use Rattle.server.specs.declared.answer.Heard.{Heard}
 use Rattle.server.specs.Starting.{Starts}
 use Rattle.server.proofs.Accepted.{Kind, accepted, refusing, kind, above}
-use Rattle.weavemitten.specs.Words.{serverOf, Saved, SavedSession, SavedDecision}
-use Rattle.weavemitten.specs.Values.{valuesOf}
+use Rattle.words.specs.Words.{serverOf, Saved, SavedSession, SavedDecision}
+use Rattle.words.specs.Values.{valuesOf}
 use Rattle.weavemitten.specs.Calls.{heldBy, Keeps, Returns, ReturnsWith, Begins}
 
 -- ---- what is kept
@@ -155,8 +155,3 @@ module _ (zone w before after : List ℕ) (t : Started) (g : Starts zone before 
             octets = g .octets;
             unchanged = λ h. refl;
           }
-
--- ---- values
-
-pub valued : {a b : Answer} {v : List ℕ} → v ≡ valuesOf (answerOf b) → a ≡ b → v ≡ valuesOf (answerOf a)
-valued p e = rw e p

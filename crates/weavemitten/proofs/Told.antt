@@ -62,8 +62,8 @@ use Rattle.service.specs.Call.{
   pushTo,
   endsAt,
 }
-use Rattle.weavemitten.specs.Words.{truth, flag}
-use Rattle.weavemitten.specs.Values.{eight, valuesOf}
+use Rattle.words.specs.Words.{truth, flag}
+use Rattle.words.specs.Values.{eight, valuesOf}
 use Rattle.weavemitten.specs.Told.{answerFrom, hasValues}
 
 -- ---- one answer

@@ -12,8 +12,8 @@ use Rattle.service.specs.Call as Call
 use Rattle.server.specs.Memory.{Memory, withZone, stateOf}
 use Rattle.server.specs.Answers.{answerOf, lastAccepted}
 use Rattle.server.specs.declared.answer.Outcome.{Outcome}
-use Rattle.weavemitten.specs.Words.{serverOf}
-use Rattle.weavemitten.specs.Values.{valuesOf}
+use Rattle.words.specs.Words.{serverOf}
+use Rattle.words.specs.Values.{valuesOf}
 
 -- The state that lent words and memory hold.
 abbrev pub heldBy : List ℕ → Memory → State

@@ -7,7 +7,7 @@ use Rattle.service.specs.Call.{Call, outcome}
 use Rattle.service.specs.Observer.{Observer, watching, observe}
 use Rattle.service.specs.Demand.{Run}
 use Rattle.server.specs.Memory.{Memory}
-use Rattle.weavemitten.specs.Values.{valuesOf}
+use Rattle.words.specs.Values.{valuesOf}
 use Rattle.weavemitten.specs.Calls.{heldBy, Begins, Returns}
 use Rattle.weavemitten.specs.Told.{answerFrom, hasValues}
 

@@ -19,7 +19,7 @@ use Rattle.service.specs.declared.refusal.Refusal.the-variants.{
 use Rattle.service.specs.State.{maxSessions}
 use Rattle.service.specs.Answer.{Answer, done, opened, ended, sent, notOurs, aborted, reconfirm, refused}
 use Rattle.service.specs.Call.{Call, opens, closes, receives, edits, ticks}
-use Rattle.weavemitten.specs.Words.{truth}
+use Rattle.words.specs.Words.{truth}
 
 -- 01, "The answer numbers", from 10 on.
 abbrev pub refusalFrom : ℕ → Refusal

@@ -1,14 +1,6 @@
 // The calls of the service for a C host: each reads the server's numbers from the lent words, calls the server, and keeps
 // what it gave: a batch all numbers, the others the time and those of the sessions that they change. No answer is 0, and the
 // calls take any words and any octets.
-use crate::values::Values;
-use crate::values::put;
-use crate::words::Words;
-use crate::words::load;
-use crate::words::load_context;
-use crate::words::save;
-use crate::words::save_decision;
-use crate::words::save_session;
 use server::Decision;
 use server::Heard;
 use server::LAST_ACCEPTED;
@@ -25,12 +17,20 @@ use server::start;
 use server_batch::batch;
 use server_message::hear;
 use service::SessionNumber;
+use words::Values;
+use words::Words;
+use words::load;
+use words::load_context;
+use words::put;
+use words::save;
+use words::save_decision;
+use words::save_session;
 ghost use mathlib.Core.List.{[]};
 ghost use Rattle.service.specs.Call.{Bytes, Call, outcome, opens, closes, receives, edits, ticks};
 ghost use Rattle.server.specs.Memory.{Memory, memoryNow};
 ghost use Rattle.server.specs.Answers.{heardIn};
 ghost use Rattle.server.specs.Changes.{decidedBy};
-ghost use Rattle.weavemitten.specs.Words.{serverOf};
+ghost use Rattle.words.specs.Words.{serverOf};
 ghost use Rattle.weavemitten.specs.Calls.{heldBy, Keeps, Begins, Returns, ReturnsWith, ReturnsOn};
 
 // The numbers of an outcome are kept, unless it is a refusal.

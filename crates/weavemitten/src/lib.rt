@@ -1,8 +1,6 @@
 // The library for the host's C program: the service, and three questions. Each answer is a number of 01 that is never 0.
 // A slice is any bytes: none, with any pointer, or more than a message can have.
 mod calls;
-mod values;
-mod words;
 
 pub use calls::weavemitten_call_batch;
 pub use calls::weavemitten_call_close;

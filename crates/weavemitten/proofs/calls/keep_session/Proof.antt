@@ -1,6 +1,6 @@
 -- `weavemitten::calls::keep_session` meets its contract: by the number. Assumes nothing.
 use Rattle.server.specs.Answers.{heardIn}
-use Rattle.weavemitten.specs.Words.{serverOf}
+use Rattle.words.specs.Words.{serverOf}
 use Rattle.weavemitten.proofs.Serving.{kept-session, kept-same}
 use borrow.Author.Needs.{needs}
 use Rattle.weavemitten.proofs.calls.keep_session.Statement.{statement}

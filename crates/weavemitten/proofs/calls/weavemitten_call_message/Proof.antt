@@ -4,7 +4,7 @@ use Rattle.service.specs.Call.{receives}
 use Rattle.server.specs.Memory.{memoryOf}
 use Rattle.server.specs.Answers.{heardIn}
 use Rattle.server_message.proofs.Delivered.{has-context}
-use Rattle.weavemitten.specs.Words.{serverOf}
+use Rattle.words.specs.Words.{serverOf}
 use Rattle.weavemitten.proofs.Serving.{returned-with}
 use borrow.Author.Needs.{needs}
 use Rattle.weavemitten.proofs.calls.weavemitten_call_message.Statement.{statement}
