@@ -11,9 +11,9 @@ use borrow.Author.Tests.{leb-true, leb-false}
 use Rattle.wire.specs.Part.{part}
 use Rattle.script.specs.Stream.{Piece, pieceOf, Cuts}
 use Rattle.script.specs.declared.stream.Taken.{Taken}
-use Rattle.transcript.specs.Chunks.{Feeds, used, ends}
-use Rattle.replay.specs.Reading.{leftOf, Resumes}
-use Rattle.replay.specs.declared.input.Progress.{Progress}
+use Rattle.script.specs.Chunks.{Feeds, used, ends}
+use Rattle.input.specs.Reading.{leftOf, Resumes}
+use Rattle.input.specs.declared.progress.Progress.{Progress}
 
 drop-within : (l : List ℕ) (n : ℕ) → drop (min n (length l)) l ≡ drop n l
 drop-within l n = by-test (leb n (length l)) refl
