@@ -44,7 +44,7 @@ module _ (p : Progress) (input line line′ chunk rest : List ℕ) (e : chunk �
         more = refl;
       }
 
--- A step of the cutting that `transcript/Cutting.cut-lines` and `transcript/Responding.replayed-chunks` speak of.
+-- A step of the cutting that `script/Cutting.cut-lines` and `transcript/Responding.replayed-chunks` speak of.
 module _ (p : Progress) (input line : List ℕ) (q : Progress) (line′ : List ℕ) (r : Resumes p input line q line′) where
   ended-is : pieceOf (take (p .held) line) (leftOf p input) .ended ≡ q .ready
   ended-is = ap (λ (x : Piece). x .ended) (sym (r .piece))
