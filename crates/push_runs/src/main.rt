@@ -9,14 +9,13 @@ mod answer;
 mod command;
 mod run;
 
-use command::read_command;
 use input::Input;
 use input::Progress;
 use input::held_line;
 use input::idle;
 use input::next_line;
 use run::fresh;
-use run::run;
+use run::run_line;
 use script::Line;
 
 fn take_line(p: Progress, input: &mut Input, line: &mut Line) -> Progress {
@@ -30,14 +29,12 @@ fn main() {
     let mut subs = [0u8; session::AREA];
     let mut input = [0u8; 65536];
     let mut line = [0u8; 32769];
-    let mut bytes = [0u8; 16384];
     let mut s = fresh();
     let mut p = take_line(idle(true), &mut input, &mut line);
     let mut turns = u64::MAX;
     while turns > 0 && p.ready {
         turns -= 1;
-        let command = read_command(held_line(p, &line), &mut bytes);
-        s = run(command, &bytes, &mut first, &mut second, &mut subs, s);
+        s = run_line(held_line(p, &line), &mut first, &mut second, &mut subs, s);
         p = take_line(p, &mut input, &mut line);
     }
 }

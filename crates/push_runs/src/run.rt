@@ -1,6 +1,7 @@
-// One command of a run, on one session's subscriptions and one zone, and its answer.
+// One line of a run, on one session's subscriptions and one zone, and its answer.
 use crate::answer;
 use crate::command::Command;
+use crate::command::read_command;
 use script::Bytes;
 use table::part;
 use zone::BatchResult;
@@ -23,6 +24,22 @@ pub fn fresh() -> State {
     }
 }
 
+// The PUSH of a batch from one area into the other, and its answer.
+fn push(
+    old: &zone::Area,
+    records: usize,
+    new: &zone::Area,
+    news: usize,
+    subs: &session::Area,
+    live: usize,
+) {
+    let gone = notify::departed(old, records, new, news);
+    let fresh = notify::arrived(old, records, new, news);
+    let mut out = [0u8; OUTPUT];
+    let n = notify::write_push(old, records, &gone, new, news, &fresh, subs, live, &mut out);
+    answer::stored(part(&out, 0, n));
+}
+
 // A batch from the area that holds the records into the other one.
 fn batch(
     bytes: &[u8],
@@ -31,28 +48,13 @@ fn batch(
     subs: &session::Area,
     s: State,
 ) -> State {
-    let mut out = [0u8; OUTPUT];
     match zone::batch(b"\x04shop\x07example\0", bytes, old, s.records, new) {
         BatchResult::Faulty(f) => {
-            answer::batch(answer::refusal(f), part(&out, 0, 0));
+            answer::refused(f);
             s
         }
         BatchResult::Stored(news) => {
-            let gone = notify::departed(old, s.records, new, news);
-            let fresh = notify::arrived(old, s.records, new, news);
-            let n = notify::write_push(
-                old,
-                s.records,
-                &gone,
-                new,
-                news,
-                &fresh,
-                subs,
-                s.live,
-                &mut out,
-            );
-            let push = part(&out, 0, n);
-            answer::batch(answer::done(push), push);
+            push(old, s.records, new, news, subs, s.live);
             State {
                 records: news,
                 second: !s.second,
@@ -62,11 +64,33 @@ fn batch(
     }
 }
 
-// The first PUSH of a subscription that was added.
-fn first_push(store: &zone::Area, records: usize, name: &[u8], rrtype: u16, rrclass: u16) {
+// The subscription, and the first PUSH of it.
+fn subscribe(
+    name: &[u8],
+    id: u16,
+    rrtype: u16,
+    rrclass: u16,
+    store: &zone::Area,
+    subs: &mut session::Area,
+    s: State,
+) -> State {
     let mut out = [0u8; OUTPUT];
-    let n = notify::write_first(store, records, name, rrtype, rrclass, &mut out, 0);
+    let n = notify::write_first(store, s.records, name, rrtype, rrclass, &mut out, 0);
     answer::subscribed(part(&out, 0, n));
+    State {
+        records: s.records,
+        second: s.second,
+        live: session::append(subs, s.live, id, name, rrtype, rrclass),
+    }
+}
+
+fn unsubscribe(id: u16, subs: &mut session::Area, s: State) -> State {
+    answer::unsubscribed();
+    State {
+        records: s.records,
+        second: s.second,
+        live: session::remove(subs, s.live, id),
+    }
 }
 
 // The area that holds the records.
@@ -77,16 +101,7 @@ fn store<'a>(first: &'a zone::Area, second: &'a zone::Area, s: State) -> &'a zon
     first
 }
 
-fn with_live(s: State, live: usize) -> State {
-    State {
-        records: s.records,
-        second: s.second,
-        live,
-    }
-}
-
-// Carries the command out, and writes its answer.
-pub fn run(
+fn run(
     command: Command,
     bytes: &Bytes,
     first: &mut zone::Area,
@@ -101,13 +116,9 @@ pub fn run(
         }
         Command::Subscribe(id, rrtype, rrclass, n) => {
             let name = part(bytes, 0, n);
-            first_push(store(first, second, s), s.records, name, rrtype, rrclass);
-            with_live(s, session::append(subs, s.live, id, name, rrtype, rrclass))
+            subscribe(name, id, rrtype, rrclass, store(first, second, s), subs, s)
         }
-        Command::Unsubscribe(id) => {
-            answer::unsubscribed();
-            with_live(s, session::remove(subs, s.live, id))
-        }
+        Command::Unsubscribe(id) => unsubscribe(id, subs, s),
         Command::Batch(n) => {
             if s.second {
                 return batch(part(bytes, 0, n), second, first, subs, s);
@@ -119,4 +130,17 @@ pub fn run(
             s
         }
     }
+}
+
+// Carries the line's command out, and writes its answer.
+pub fn run_line(
+    line: &[u8],
+    first: &mut zone::Area,
+    second: &mut zone::Area,
+    subs: &mut session::Area,
+    s: State,
+) -> State {
+    let mut bytes: Bytes = [0u8; 16384];
+    let command = read_command(line, &mut bytes);
+    run(command, &bytes, first, second, subs, s)
 }
