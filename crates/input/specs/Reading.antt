@@ -26,9 +26,9 @@ pub record Resumes (p : Progress) (input line : List ℕ) (q : Progress) (line�
   pub end : q .end ≡ p .end
   pub more : q .more ≡ p .more
 
--- A line that begins with what is held in h and goes on in `left` and in octets that came behind it is ready; it, or as much of
--- it as is held, stands at the front of `line`, and what follows it is left of the chunk. Where `left` has its LF, nothing more came. Only the
--- input's last line may be without LF. Which octets come, no contract can say.
+-- A line is ready that begins with what is held in h and goes on in `left` and in octets that came behind it. As much of it as is
+-- kept stands at the front of `line`, and what follows it is left of the chunk. Where `left` has its LF, nothing more came; only the
+-- input's last line may be without one. Which octets come, no contract can say.
 pub record LineReady (h left : List ℕ) (q : Progress) (input line : List ℕ) : Type 0 where
   pub came : List ℕ
   pub unread : pieceOf h left .ended ≡ true → came ≡ []
