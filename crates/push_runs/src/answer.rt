@@ -35,7 +35,7 @@ pub fn subscribed(push: &[u8]) {
     print_push(push);
 }
 
-pub fn batch(answer: u64, push: &[u8]) {
+fn batch(answer: u64, push: &[u8]) {
     io::write_all(STDOUT_FILENO, b"batch\t");
     io::print_decimal(STDOUT_FILENO, answer);
     io::write_all(STDOUT_FILENO, b"\t");
@@ -43,11 +43,15 @@ pub fn batch(answer: u64, push: &[u8]) {
 }
 
 // 01, "The answer numbers": 2 where there is a PUSH, 1 where there is none.
-pub fn done(push: &[u8]) -> u64 {
-    if push.len() == 0 { 1 } else { 2 }
+pub fn stored(push: &[u8]) {
+    batch(if push.len() == 0 { 1 } else { 2 }, push);
 }
 
-pub fn refusal(fault: BatchFault) -> u64 {
+pub fn refused(fault: BatchFault) {
+    batch(refusal(fault), b"");
+}
+
+fn refusal(fault: BatchFault) -> u64 {
     match fault {
         BatchFault::Unreadable => 14,
         BatchFault::BadValue => 15,

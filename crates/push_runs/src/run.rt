@@ -1,14 +1,9 @@
-// One line of a run, on one session's subscriptions and one zone.
+// One line of a run, on one session's subscriptions and one zone, and its answer.
 use crate::answer;
-use crate::fields::Short;
-use crate::fields::behind;
-use crate::fields::first;
-use crate::fields::read_short;
+use crate::command::Command;
+use crate::command::read_command;
 use script::Bytes;
-use script::Decoded;
-use script::read_bytes;
 use table::part;
-use wire::same_octets;
 use zone::BatchResult;
 
 // The output of one session.
@@ -29,6 +24,22 @@ pub fn fresh() -> State {
     }
 }
 
+// The PUSH of a batch from one area into the other, and its answer.
+fn push(
+    old: &zone::Area,
+    records: usize,
+    new: &zone::Area,
+    news: usize,
+    subs: &session::Area,
+    live: usize,
+) {
+    let gone = notify::departed(old, records, new, news);
+    let fresh = notify::arrived(old, records, new, news);
+    let mut out = [0u8; OUTPUT];
+    let n = notify::write_push(old, records, &gone, new, news, &fresh, subs, live, &mut out);
+    answer::stored(part(&out, 0, n));
+}
+
 // A batch from the area that holds the records into the other one.
 fn batch(
     bytes: &[u8],
@@ -37,28 +48,13 @@ fn batch(
     subs: &session::Area,
     s: State,
 ) -> State {
-    let mut out = [0u8; OUTPUT];
     match zone::batch(b"\x04shop\x07example\0", bytes, old, s.records, new) {
         BatchResult::Faulty(f) => {
-            answer::batch(answer::refusal(f), part(&out, 0, 0));
+            answer::refused(f);
             s
         }
         BatchResult::Stored(news) => {
-            let gone = notify::departed(old, s.records, new, news);
-            let fresh = notify::arrived(old, s.records, new, news);
-            let n = notify::write_push(
-                old,
-                s.records,
-                &gone,
-                new,
-                news,
-                &fresh,
-                subs,
-                s.live,
-                &mut out,
-            );
-            let push = part(&out, 0, n);
-            answer::batch(answer::done(push), push);
+            push(old, s.records, new, news, subs, s.live);
             State {
                 records: news,
                 second: !s.second,
@@ -68,40 +64,7 @@ fn batch(
     }
 }
 
-fn batch_line(
-    hex: &[u8],
-    first: &mut zone::Area,
-    second: &mut zone::Area,
-    subs: &session::Area,
-    s: State,
-) -> State {
-    let mut space: Bytes = [0u8; 16384];
-    let Decoded::Bytes(n) = read_bytes(hex, &mut space) else {
-        answer::unreadable();
-        return s;
-    };
-    let bytes = part(&space, 0, n);
-    if s.second {
-        return batch(bytes, second, first, subs, s);
-    }
-    batch(bytes, first, second, subs, s)
-}
-
-// The first PUSH of a subscription that was added.
-fn first_push(store: &zone::Area, records: usize, name: &[u8], rrtype: u16, rrclass: u16) {
-    let mut out = [0u8; OUTPUT];
-    let n = notify::write_first(store, records, name, rrtype, rrclass, &mut out, 0);
-    answer::subscribed(part(&out, 0, n));
-}
-
-// A name of so many octets, and nothing behind it.
-fn is_name(s: &[u8]) -> bool {
-    let wire::NameReading::Name(n) = wire::name_at(s, 0) else {
-        return false;
-    };
-    n == s.len()
-}
-
+// The subscription, and the first PUSH of it.
 fn subscribe(
     name: &[u8],
     id: u16,
@@ -111,89 +74,65 @@ fn subscribe(
     subs: &mut session::Area,
     s: State,
 ) -> State {
-    if !is_name(name) {
-        answer::unreadable();
-        return s;
-    }
-    let live = session::append(subs, s.live, id, name, rrtype, rrclass);
-    first_push(store, s.records, name, rrtype, rrclass);
+    let mut out = [0u8; OUTPUT];
+    let n = notify::write_first(store, s.records, name, rrtype, rrclass, &mut out, 0);
+    answer::subscribed(part(&out, 0, n));
     State {
         records: s.records,
         second: s.second,
-        live,
+        live: session::append(subs, s.live, id, name, rrtype, rrclass),
     }
 }
 
-fn subscribe_to(
-    hex: &[u8],
-    id: u16,
-    rrtype: u16,
-    rrclass: u16,
-    store: &zone::Area,
-    subs: &mut session::Area,
-    s: State,
-) -> State {
-    let mut space = [0u8; 255];
-    let Decoded::Bytes(n) = read_bytes(hex, &mut space) else {
-        answer::unreadable();
-        return s;
-    };
-    subscribe(part(&space, 0, n), id, rrtype, rrclass, store, subs, s)
-}
-
-fn subscribe_line(rest: &[u8], store: &zone::Area, subs: &mut session::Area, s: State) -> State {
-    let two = behind(rest);
-    let three = behind(two);
-    if let Short::Value(id) = read_short(first(rest)) {
-        if let Short::Value(rrtype) = read_short(first(two)) {
-            if let Short::Value(rrclass) = read_short(first(three)) {
-                return subscribe_to(behind(three), id, rrtype, rrclass, store, subs, s);
-            }
-        }
-    }
-    answer::unreadable();
-    s
-}
-
-fn unsubscribe_line(rest: &[u8], subs: &mut session::Area, s: State) -> State {
-    let Short::Value(id) = read_short(rest) else {
-        answer::unreadable();
-        return s;
-    };
-    let live = session::remove(subs, s.live, id);
+fn unsubscribe(id: u16, subs: &mut session::Area, s: State) -> State {
     answer::unsubscribed();
     State {
         records: s.records,
         second: s.second,
-        live,
+        live: session::remove(subs, s.live, id),
     }
 }
 
-// A verb with fields behind it. A tab too many is no digit of the last one.
-fn run_verb(
-    verb: &[u8],
-    rest: &[u8],
+// The area that holds the records.
+fn store<'a>(first: &'a zone::Area, second: &'a zone::Area, s: State) -> &'a zone::Area {
+    if s.second {
+        return second;
+    }
+    first
+}
+
+fn run(
+    command: Command,
+    bytes: &Bytes,
     first: &mut zone::Area,
     second: &mut zone::Area,
     subs: &mut session::Area,
     s: State,
 ) -> State {
-    if same_octets(verb, b"batch") {
-        return batch_line(rest, first, second, subs, s);
-    }
-    if same_octets(verb, b"unsubscribe") {
-        return unsubscribe_line(rest, subs, s);
-    }
-    if same_octets(verb, b"subscribe") {
-        if s.second {
-            return subscribe_line(rest, second, subs, s);
+    match command {
+        Command::Fresh => {
+            answer::fresh();
+            fresh()
         }
-        return subscribe_line(rest, first, subs, s);
+        Command::Subscribe(id, rrtype, rrclass, n) => {
+            let name = part(bytes, 0, n);
+            subscribe(name, id, rrtype, rrclass, store(first, second, s), subs, s)
+        }
+        Command::Unsubscribe(id) => unsubscribe(id, subs, s),
+        Command::Batch(n) => {
+            if s.second {
+                return batch(part(bytes, 0, n), second, first, subs, s);
+            }
+            batch(part(bytes, 0, n), first, second, subs, s)
+        }
+        Command::Unreadable => {
+            answer::unreadable();
+            s
+        }
     }
-    answer::unreadable();
-    s
 }
 
+// Carries the line's command out, and writes its answer.
 pub fn run_line(
     line: &[u8],
     first: &mut zone::Area,
@@ -201,14 +140,7 @@ pub fn run_line(
     subs: &mut session::Area,
     s: State,
 ) -> State {
-    if same_octets(line, b"fresh") {
-        answer::fresh();
-        return fresh();
-    }
-    let t = script::first(line, b'\t');
-    if line.len() <= t {
-        answer::unreadable();
-        return s;
-    }
-    run_verb(part(line, 0, t), behind(line), first, second, subs, s)
+    let mut bytes: Bytes = [0u8; 16384];
+    let command = read_command(line, &mut bytes);
+    run(command, &bytes, first, second, subs, s)
 }

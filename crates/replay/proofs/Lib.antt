@@ -1,3 +1,2 @@
--- Laws of the replay program's code: the call that a line makes, what is told of it, and how far the input has come.
+-- Laws of the replay program's code: the call that a line makes, and what is told of it.
 pub mod Performing
-pub mod Resuming

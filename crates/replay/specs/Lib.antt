@@ -1,3 +1,2 @@
--- Definitions of the replay program's code: the call that a line makes, and how far the input has come.
+-- Definitions of the replay program's code: the call that a line makes.
 pub mod Performing
-pub mod Reading

@@ -1,13 +1,12 @@
 // Replays a script of calls on a server for the zone shop.example: lines on standard input, what came of each on standard
 // output (01, "The replay program").
-mod input;
 mod respond;
 
 use input::Input;
 use input::Progress;
 use input::held_line;
 use input::idle;
-use input::resume;
+use input::next_line;
 use respond::respond;
 use script::Line;
 use server::Name;
@@ -17,48 +16,8 @@ use server::start;
 use table::part;
 use transcript::Text;
 
-// Reads once. Where the input ended, the last line's LF may be missing; where a read fails, a line that is not whole is dropped.
-fn refill(held: usize, input: &mut Input) -> Progress {
-    let got = libc::read(0, input);
-    if got < 0 {
-        os::fail(b"replay: standard input");
-        return idle(false);
-    }
-    let n = io::count(got, input);
-    Progress {
-        end: n,
-        used: 0,
-        held,
-        ready: n == 0 && held > 0,
-        more: n > 0,
-    }
-}
-
-// What is left of the chunk, and the next one where the line goes on.
-fn advance(p: Progress, input: &mut Input, line: &mut Line) -> Progress {
-    let q = resume(p, input, line);
-    if q.ready {
-        return q;
-    }
-    refill(q.held, input)
-}
-
-// Fills the line. A proved loop has to end, and nothing says that the input does: the turns are counted down, from a number that
-// no run uses up.
-fn next_line(p: Progress, input: &mut Input, line: &mut Line) -> Progress {
-    let mut q = Progress {
-        end: p.end,
-        used: p.used,
-        held: 0,
-        ready: false,
-        more: p.more,
-    };
-    let mut turns = u64::MAX;
-    while turns > 0 && q.more && !q.ready {
-        q = advance(q, input, line);
-        turns -= 1;
-    }
-    q
+fn take_line(p: Progress, input: &mut Input, line: &mut Line) -> Progress {
+    next_line(p, input, line, b"replay: standard input")
 }
 
 // Writes the lines of an answer and takes the next line of input. Where a write fails, the program stops.
@@ -67,7 +26,7 @@ fn print(text: &Text, n: usize, p: Progress, input: &mut Input, line: &mut Line)
         os::fail(b"replay: standard output");
         return idle(false);
     }
-    next_line(p, input, line)
+    take_line(p, input, line)
 }
 
 // Answers each line in turn, with what the lines before it left: `respond` promises the lines that are written for it
@@ -86,7 +45,7 @@ fn replay(start: Server, zone: &Name) {
     let mut out = [0u8; 65536];
     let mut text = [0u8; 327880];
     let mut server = start;
-    let mut p = next_line(idle(true), &mut input, &mut line);
+    let mut p = take_line(idle(true), &mut input, &mut line);
     let mut turns = u64::MAX;
     while turns > 0 && p.ready {
         turns -= 1;

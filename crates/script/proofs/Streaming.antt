@@ -32,7 +32,7 @@ take-written-behind (x ∷ o) (suc at) text =
     let m : min (suc at + length text) (suc (length o)) ≡ suc (min (at + length text) (length o)) = omega arith in
     ap₂ (λ (n : ℕ) (l : List ℕ). take n l) m (sets-cons x o at text) ∙ ap (λ (l : List ℕ). x ∷ l) (take-written-behind o at text)
 
-piece-same : {h g r s : List ℕ} {d e : Bool} → h ≡ g → r ≡ s → d ≡ e
+pub piece-same : {h g r s : List ℕ} {d e : Bool} → h ≡ g → r ≡ s → d ≡ e
     → _≡_ {A = Piece} (record { held = h; rest = r; ended = d }) (record { held = g; rest = s; ended = e })
 piece-same {h} {g} {r} {s} {d} {e} p q t = rw (p, q, t)
 

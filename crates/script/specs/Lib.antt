@@ -1,4 +1,5 @@
 -- Definitions of the replay program's lines, read and written, and what the code promises in their words.
+pub mod Chunks
 pub mod Code
 pub mod Digit
 pub mod Fields

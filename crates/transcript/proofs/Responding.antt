@@ -14,20 +14,20 @@ use Rattle.server.specs.declared.answer.Answer.{Answer}
 use Rattle.script.specs.Line.{Line, lineOf, octetsIn}
 use Rattle.script.specs.Code.{Written, commandLine, sessionOf}
 use Rattle.script.specs.Stream.{linesIn, kept}
+use Rattle.script.specs.Chunks.{Reads, unended, joined}
 use Rattle.script.specs.declared.verb.Verb.{Verb}
 use Rattle.script.specs.declared.verb.Verb.the-variants.{Unknown}
 use Rattle.script.specs.declared.reader.Command.{Command}
 use Rattle.script.specs.declared.reader.Command.the-variants.{Open, Close, Message, Batch, Tick, Unreadable}
 use Rattle.script.specs.declared.writer.SessionField.{SessionField}
 use Rattle.script.proofs.Carrying.{line-small}
+use Rattle.script.proofs.Cutting.{cut-lines, kept-read}
 use Rattle.script.proofs.Writing.{length-line}
 use Rattle.transcript.specs.Lines.{linesOf, textRoom, Printed}
-use Rattle.transcript.specs.Chunks.{Reads, unended, joined}
 use Rattle.transcript.specs.Code.{answeredOf}
 use Rattle.transcript.specs.Responses.{verbIn, ownIn, stepOf, numberTold, unreadLine, linesTold, telling, responseTo, replayed}
 use Rattle.transcript.specs.declared.response.Answered.{Answered}
 use Rattle.transcript.specs.declared.response.Answered.the-variants.{Told, Unread}
-use Rattle.transcript.proofs.Cutting.{cut-lines, kept-read}
 
 -- ---- the lines
 

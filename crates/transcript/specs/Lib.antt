@@ -1,5 +1,4 @@
--- Definitions of the replay program: the lines of an answer; the whole input in chunks; what a line gives.
+-- Definitions of the replay program: the lines of an answer; what a line gives.
 pub mod Lines
-pub mod Chunks
 pub mod Code
 pub mod Responses

@@ -9,7 +9,7 @@ use wire::same_octets;
 // Room for a name and more: longer fields are unreadable.
 type Octets = [u8; 300];
 
-pub fn unreadable() {
+fn unreadable() {
     io::write_all(1, b"?\n");
 }
 

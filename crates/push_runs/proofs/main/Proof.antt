@@ -4,10 +4,10 @@ use Rattle.push_runs.proofs.main.Statement.{statement}
 use Rattle.push_runs.proofs.main.Tie as tie
 
 abbrev Inv-loop : tie.InvT-loop
-Inv-loop line₀ first₀ second₀ subs₀ p₀ turns₀ line first second subs p turns = Unit {0}
+Inv-loop first₀ second₀ subs₀ input₀ line₀ s₀ p₀ turns₀ first second subs input line s p turns = Unit {0}
 
 abbrev μ-loop : tie.MeasureT-loop
-μ-loop line₀ first₀ second₀ subs₀ p₀ turns₀ line first second subs p turns = turns
+μ-loop first₀ second₀ subs₀ input₀ line₀ s₀ p₀ turns₀ first second subs input line s p turns = turns
 
 pub main-spec : {M : Type 1} → statement M
 main-spec =
@@ -15,12 +15,15 @@ main-spec =
     (tie.spec
     Inv-loop
     μ-loop
-    (λ c κs. search needs)
+    (λ c κs. tt)
+    (λ c κs. tt)
+    (λ c κs. tt)
+    (λ c. tt)
     (λ c. search needs)
-    (λ c κs. search needs)
+    (λ c κs. tt)
+    (λ c κs. tt)
+    (λ c κs. tt)
     (λ c. search needs)
-    (λ c. search needs)
-    (λ c. search needs)
-    (λ c κs. search needs)
-    (λ c. search needs)
-    (λ c. search needs))
+    (λ c. tt)
+    (λ c. tt)
+    (λ c. tt))

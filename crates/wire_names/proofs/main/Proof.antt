@@ -4,10 +4,10 @@ use Rattle.wire_names.proofs.main.Statement.{statement}
 use Rattle.wire_names.proofs.main.Tie as tie
 
 abbrev Inv-loop : tie.InvT-loop
-Inv-loop line₀ p₀ turns₀ line p turns = Unit {0}
+Inv-loop input₀ line₀ p₀ turns₀ input line p turns = Unit {0}
 
 abbrev μ-loop : tie.MeasureT-loop
-μ-loop line₀ p₀ turns₀ line p turns = turns
+μ-loop input₀ line₀ p₀ turns₀ input line p turns = turns
 
 pub main-spec : {M : Type 1} → statement M
 main-spec =
@@ -15,11 +15,14 @@ main-spec =
     (tie.spec
     Inv-loop
     μ-loop
-    (λ c. search needs)
+    (λ c κs. search needs)
     (λ c κs. search needs)
     (λ c. search needs)
     (λ c. search needs)
-    (λ c. search needs)
     (λ c κs. search needs)
+    (λ c κs. search needs)
+    (λ c κs. search needs)
+    (λ c. search needs)
+    (λ c. search needs)
     (λ c. search needs)
     (λ c. search needs))

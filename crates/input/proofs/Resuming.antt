@@ -11,9 +11,9 @@ use borrow.Author.Tests.{leb-true, leb-false}
 use Rattle.wire.specs.Part.{part}
 use Rattle.script.specs.Stream.{Piece, pieceOf, Cuts}
 use Rattle.script.specs.declared.stream.Taken.{Taken}
-use Rattle.transcript.specs.Chunks.{Feeds, used, ends}
-use Rattle.replay.specs.Reading.{leftOf, Resumes}
-use Rattle.replay.specs.declared.input.Progress.{Progress}
+use Rattle.script.specs.Chunks.{Feeds, used, ends}
+use Rattle.input.specs.Reading.{leftOf, Resumes}
+use Rattle.input.specs.declared.progress.Progress.{Progress}
 
 drop-within : (l : List ℕ) (n : ℕ) → drop (min n (length l)) l ≡ drop n l
 drop-within l n = by-test (leb n (length l)) refl
@@ -44,7 +44,7 @@ module _ (p : Progress) (input line line′ chunk rest : List ℕ) (e : chunk �
         more = refl;
       }
 
--- A step of the cutting that `transcript/Cutting.cut-lines` and `transcript/Responding.replayed-chunks` speak of.
+-- A step of the cutting that `script/Cutting.cut-lines` and `transcript/Responding.replayed-chunks` speak of.
 module _ (p : Progress) (input line : List ℕ) (q : Progress) (line′ : List ℕ) (r : Resumes p input line q line′) where
   ended-is : pieceOf (take (p .held) line) (leftOf p input) .ended ≡ q .ready
   ended-is = ap (λ (x : Piece). x .ended) (sym (r .piece))

@@ -7,12 +7,13 @@ use native.Mathlib.Omega.{arith}
 use lib.ListN.{length, take, drop, length-append, length-take}
 use lib.Seq.{take-all}
 use lib.Dec.{eqb, ltb}
-use borrow.Author.Tests.{ltb-true, ltb-false, lt-leb}
+use borrow.Author.Tests.{ltb-true, ltb-false, lt-ltb, le-ltb, lt-leb}
 use Rattle.script.specs.Fields.{until}
 use Rattle.script.specs.Line.{Line, maxLine, lineOfFields, lineOf}
 use Rattle.script.specs.Output.{lf}
 use Rattle.script.specs.Stream.{before, linesIn, room, kept, pieceOf}
-use Rattle.transcript.specs.Chunks.{Feeds, used, ends, Reads, over, more, unended, joined}
+use Rattle.script.specs.Chunks.{Feeds, used, ends, Reads, over, more, unended, joined}
+use Rattle.script.proofs.Streaming.{piece-same}
 
 -- A list without LF.
 pub record Free (l : List ℕ) : Type 0 where
@@ -101,6 +102,25 @@ kept-behind a b = take-taken room a b
 kept-nil : _≡_ {A = List ℕ} (kept []) []
 unfolding kept
 kept-nil = refl
+
+-- A line that goes on behind a piece of input is cut from that piece and the next one together.
+pub pieces-joined : (h a b : List ℕ) → pieceOf h a .ended ≡ false → pieceOf (pieceOf h a .held) b ≡ pieceOf h (a ++ b)
+unfolding pieceOf
+pieces-joined h a b e =
+    let free : length a ≤ until lf a = ltb-false (until lf a) (length a) e in
+    let u : until lf (a ++ b) ≡ length a + until lf b = until-behind a b free in
+    let line : take (until lf a) a ++ take (until lf b) b ≡ take (until lf (a ++ b)) (a ++ b) =
+    ap (λ (l : List ℕ). l ++ take (until lf b) b) (take-all (until lf a) a free) ∙ sym (take-behind a b (until lf b))
+    ∙ ap (λ (k : ℕ). take k (a ++ b)) (sym u) in
+    piece-same
+    (kept-behind (h ++ take (until lf a) a) (take (until lf b) b)
+    ∙ ap kept (append-assoc h (take (until lf a) a) (take (until lf b) b) ∙ ap (λ (l : List ℕ). h ++ l) line))
+    (sym (ap (λ (k : ℕ). drop (suc k) (a ++ b)) u ∙ drop-behind a b (until lf b)))
+    (sym (by-test u (ltb (until lf b) (length b)) refl))
+  where
+    by-test : until lf (a ++ b) ≡ length a + until lf b → (t : Bool) → ltb (until lf b) (length b) ≡ t → ltb (until lf (a ++ b)) (length (a ++ b)) ≡ t
+    by-test u true k = lt-ltb (until lf (a ++ b)) (length (a ++ b)) (omega (arith, u, length-append a b, ltb-true (until lf b) (length b) k))
+    by-test u false k = le-ltb (until lf (a ++ b)) (length (a ++ b)) (omega (arith, u, length-append a b, ltb-false (until lf b) (length b) k))
 
 module _ (raw : List ℕ) (f : Free raw) (input : List ℕ) where
   held-used : until lf input < length input → (rest : List ℕ)

@@ -5,7 +5,7 @@ use script::place;
 use table::part;
 ghost use mathlib.Core.Path.{_≡_};
 ghost use lib.ListN.{take};
-ghost use Rattle.replay.specs.Reading.{idleWith, Resumes};
+ghost use Rattle.input.specs.Reading.{idleWith, begunFrom, Resumes};
 
 // The chunk that was read last.
 pub type Input = [u8; 65536];
@@ -33,6 +33,19 @@ pub fn idle(more: bool) -> Progress
         held: 0,
         ready: false,
         more,
+    }
+}
+
+// The line before is done with: nothing is held of the next one.
+pub fn begun(p: Progress) -> Progress
+    ensures { λ r. ⌜ r ≡ begunFrom p ⌝ }
+{
+    Progress {
+        end: p.end,
+        used: p.used,
+        held: 0,
+        ready: false,
+        more: p.more,
     }
 }
 

@@ -1,9 +1,9 @@
--- The whole input in chunks, as the program reads it: each is cut (`script::cut`) again and again.
+-- The whole input in chunks, as a program reads it: each is cut (`script::cut`) again and again.
 use Prim.Native.Nat.{ℕ}
 use mathlib.Core.Bool.{true, false}
 use mathlib.Core.Path.{_≡_}
 use mathlib.Core.List.{List, [], _∷_, _++_}
 use Rattle.script.specs.Stream.{pieceOf}
 
 -- A chunk of input behind a line that is held, cut again and again: the lines that end in it, and what is held behind them.
 pub data Feeds : List ℕ → List ℕ → List (List ℕ) → List ℕ → Type 0 where

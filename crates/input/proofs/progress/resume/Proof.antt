@@ -1,8 +1,8 @@
--- `replay::input::resume` meets its contract. Assumes nothing.
+-- `input::progress::resume` meets its contract. Assumes nothing.
 use borrow.Author.Needs.{needs}
-use Rattle.replay.proofs.Resuming.{resumes}
-use Rattle.replay.proofs.input.resume.Statement.{statement}
-use Rattle.replay.proofs.input.resume.Tie as tie
+use Rattle.input.proofs.Resuming.{resumes}
+use Rattle.input.proofs.progress.resume.Statement.{statement}
+use Rattle.input.proofs.progress.resume.Tie as tie
 
 returns : tie.Need-returns
 returns c =
