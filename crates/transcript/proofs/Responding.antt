@@ -31,29 +31,27 @@ use Rattle.transcript.specs.declared.response.Answered.the-variants.{Tol
 
 -- ---- the lines
 
--- A command's verb and session don't depend on what stands in the memory for its octets.
+-- What is the same for all octets that a line carries is said of a command whatever stands in the memory for them.
+module _ {A : Type 0} (f : Line → A) (of-message : (t s : ℕ) (k l : List ℕ) → f (Line.message t s k) ≡ f (Line.message t s l))
+    (of-batch : (t : ℕ) (k l : List ℕ) → f (Line.batch t k) ≡ f (Line.batch t l)) where
+  any-octets : (x : Command) (o : List ℕ) → f (commandLine x []) ≡ f (commandLine x o)
+  any-octets (Open t) o = refl
+  any-octets (Close t s) o = refl
+  any-octets (Message t s n) o = of-message t s _ _
+  any-octets (Batch t n) o = of-batch t _ _
+  any-octets (Tick t) o = refl
+  any-octets Unreadable o = refl
+
+  said-as : (c d : Command) → c ≡ d → (v : A) → v ≡ f (commandLine d []) → (o : List ℕ) → v ≡ f (commandLine c o)
+  said-as c d e v h o = h ∙ any-octets d o ∙ ap (λ (x : Command). f (commandLine x o)) (sym e)
+
+-- A command's verb and session.
 module _ (c d : Command) (e : c ≡ d) where
   pub verb-as : (v : Verb) → v ≡ verbIn (commandLine d []) → (o : List ℕ) → v ≡ verbIn (commandLine c o)
-  verb-as v f o = f ∙ any-verb d ∙ ap (λ (x : Command). verbIn (commandLine x o)) (sym e)
-    where
-      any-verb : (x : Command) → verbIn (commandLine x []) ≡ verbIn (commandLine x o)
-      any-verb (Open t) = refl
-      any-verb (Close t s) = refl
-      any-verb (Message t s n) = refl
-      any-verb (Batch t n) = refl
-      any-verb (Tick t) = refl
-      any-verb Unreadable = refl
+  verb-as = said-as verbIn (λ t s k l. refl) (λ t k l. refl) c d e
 
   pub own-as : (f : SessionField) → sessionOf f ≡ ownIn (commandLine d []) → (o : List ℕ) → sessionOf f ≡ ownIn (commandLine c o)
-  own-as f g o = g ∙ any-own d ∙ ap (λ (x : Command). ownIn (commandLine x o)) (sym e)
-    where
-      any-own : (x : Command) → ownIn (commandLine x []) ≡ ownIn (commandLine x o)
-      any-own (Open t) = refl
-      any-own (Close t s) = refl
-      any-own (Message t s n) = refl
-      any-own (Batch t n) = refl
-      any-own (Tick t) = refl
-      any-own Unreadable = refl
+  own-as f = said-as ownIn (λ t s k l. refl) (λ t k l. refl) c d e (sessionOf f)
 
 module _ (c : Command) (x : Answered) (out text p : List ℕ) (r : ℕ) where
   pub told-lines : (a : Answer) → x ≡ Told a → (v : Verb) → ((o : List ℕ) → v ≡ verbIn (commandLine c o)) → (f : SessionField)
