@@ -114,18 +114,18 @@ WEAVEMITTEN_ASSERT(WEAVEMITTEN_OUTPUTS == WEAVEMITTEN_SESSIONS * WEAVEMITTEN_OUT
 #undef WEAVEMITTEN_ASSERT
 
 /* The library's own functions, which take a server's parts. Use those below. */
-uint32_t weavemitten_call_start(uint64_t *numbers, uint8_t *octets, const uint8_t *zone, size_t zone_length);
-uint32_t weavemitten_call_open(uint64_t *numbers, uint64_t time, uint64_t *values);
-uint32_t weavemitten_call_close(uint64_t *numbers, uint64_t time, uint64_t session);
-uint32_t weavemitten_call_message(uint64_t *numbers, const uint8_t *zone, const uint8_t *first, const uint8_t *second,
-                                  uint8_t *s0, uint8_t *s1, uint8_t *s2, uint8_t *s3, uint64_t time, uint64_t session,
-                                  const uint8_t *message, size_t message_length, uint8_t *output, size_t output_length,
-                                  uint64_t *values);
-uint32_t weavemitten_call_batch(uint64_t *numbers, const uint8_t *zone, uint8_t *first, uint8_t *second,
-                                const uint8_t *s0, const uint8_t *s1, const uint8_t *s2, const uint8_t *s3,
-                                uint64_t time, const uint8_t *batch, size_t batch_length, uint8_t *output,
-                                size_t output_length, uint64_t *values);
-uint32_t weavemitten_call_tick(uint64_t *numbers, uint64_t time, uint64_t *values);
+uint32_t weavemitten_server_start(uint64_t *numbers, uint8_t *octets, const uint8_t *zone, size_t zone_length);
+uint32_t weavemitten_server_open(uint64_t *numbers, uint64_t time, uint64_t *values);
+uint32_t weavemitten_server_close(uint64_t *numbers, uint64_t time, uint64_t session);
+uint32_t weavemitten_server_message(uint64_t *numbers, const uint8_t *zone, const uint8_t *first, const uint8_t *second,
+                                    uint8_t *s0, uint8_t *s1, uint8_t *s2, uint8_t *s3, uint64_t time, uint64_t session,
+                                    const uint8_t *message, size_t message_length, uint8_t *output, size_t output_length,
+                                    uint64_t *values);
+uint32_t weavemitten_server_batch(uint64_t *numbers, const uint8_t *zone, uint8_t *first, uint8_t *second,
+                                  const uint8_t *s0, const uint8_t *s1, const uint8_t *s2, const uint8_t *s3,
+                                  uint64_t time, const uint8_t *batch, size_t batch_length, uint8_t *output,
+                                  size_t output_length, uint64_t *values);
+uint32_t weavemitten_server_tick(uint64_t *numbers, uint64_t time, uint64_t *values);
 
 /*
  * Starts a server for a zone of this name, uncompressed: no session, no record, the latest time 0. What the lent memory held
@@ -133,7 +133,7 @@ uint32_t weavemitten_call_tick(uint64_t *numbers, uint64_t time, uint64_t *value
  */
 static inline uint32_t weavemitten_start(struct weavemitten_server *server, const uint8_t *zone, size_t zone_length)
 {
-    return weavemitten_call_start(server->numbers, server->zone, zone, zone_length);
+    return weavemitten_server_start(server->numbers, server->zone, zone, zone_length);
 }
 
 /*
@@ -148,13 +148,13 @@ static inline uint32_t weavemitten_start(struct weavemitten_server *server, cons
 static inline uint32_t weavemitten_open(struct weavemitten_server *server, uint64_t time,
                                         uint64_t values[WEAVEMITTEN_VALUES])
 {
-    return weavemitten_call_open(server->numbers, time, values);
+    return weavemitten_server_open(server->numbers, time, values);
 }
 
 /* Closes a session; its number is free again. Answers 1, 10 or 11. */
 static inline uint32_t weavemitten_close(struct weavemitten_server *server, uint64_t time, uint64_t session)
 {
-    return weavemitten_call_close(server->numbers, time, session);
+    return weavemitten_server_close(server->numbers, time, session);
 }
 
 /*
@@ -165,10 +165,10 @@ static inline uint32_t weavemitten_message(struct weavemitten_server *server, ui
                                            const uint8_t *message, size_t message_length, uint8_t *output,
                                            size_t output_length, uint64_t values[WEAVEMITTEN_VALUES])
 {
-    return weavemitten_call_message(server->numbers, server->zone, server->first, server->second,
-                                    server->subscriptions[0], server->subscriptions[1], server->subscriptions[2],
-                                    server->subscriptions[3], time, session, message, message_length, output,
-                                    output_length, values);
+    return weavemitten_server_message(server->numbers, server->zone, server->first, server->second,
+                                      server->subscriptions[0], server->subscriptions[1], server->subscriptions[2],
+                                      server->subscriptions[3], time, session, message, message_length, output,
+                                      output_length, values);
 }
 
 /*
@@ -180,16 +180,16 @@ static inline uint32_t weavemitten_batch(struct weavemitten_server *server, uint
                                          size_t batch_length, uint8_t *output, size_t output_length,
                                          uint64_t values[WEAVEMITTEN_VALUES])
 {
-    return weavemitten_call_batch(server->numbers, server->zone, server->first, server->second,
-                                  server->subscriptions[0], server->subscriptions[1], server->subscriptions[2],
-                                  server->subscriptions[3], time, batch, batch_length, output, output_length, values);
+    return weavemitten_server_batch(server->numbers, server->zone, server->first, server->second,
+                                    server->subscriptions[0], server->subscriptions[1], server->subscriptions[2],
+                                    server->subscriptions[3], time, batch, batch_length, output, output_length, values);
 }
 
 /* Aborts each session whose keepalive or inactivity time is over. Answers 1 or 11. */
 static inline uint32_t weavemitten_tick(struct weavemitten_server *server, uint64_t time,
                                         uint64_t values[WEAVEMITTEN_VALUES])
 {
-    return weavemitten_call_tick(server->numbers, time, values);
+    return weavemitten_server_tick(server->numbers, time, values);
 }
 
 #ifdef __cplusplus

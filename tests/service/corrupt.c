@@ -170,7 +170,7 @@ static void damage_octets(void) {
 static void damage(void) {
     uint64_t how = below(64);
     if (how == 0) for (int p = 0; p < VALUES; p++) scramble(lent[p], sizes[p]);
-    if (how == 1) weavemitten_call_start(numbers(), lent[ZONE], zone_name, sizeof zone_name);
+    if (how == 1) weavemitten_server_start(numbers(), lent[ZONE], zone_name, sizeof zone_name);
     if (how > 1 && how < 12) damage_number();
     if (how > 11 && how < 20) damage_octets();
 }
@@ -238,16 +238,16 @@ static const struct {
 static uint32_t call_at(int kind, uint64_t time) {
     uint64_t session = below(16) == 0 ? next() : below(5), *values = (uint64_t *)(void *)lent[VALUES];
     uint8_t *in = lengths[INPUT] == 0 && below(2) == 0 ? NULL : lent[INPUT];
-    if (kind == 0) return weavemitten_call_start(numbers(), lent[ZONE], in, lengths[INPUT]);
-    if (kind == 1) return weavemitten_call_open(numbers(), time, values);
-    if (kind == 2) return weavemitten_call_close(numbers(), time, session);
+    if (kind == 0) return weavemitten_server_start(numbers(), lent[ZONE], in, lengths[INPUT]);
+    if (kind == 1) return weavemitten_server_open(numbers(), time, values);
+    if (kind == 2) return weavemitten_server_close(numbers(), time, session);
     if (kind == 3)
-        return weavemitten_call_message(numbers(), lent[ZONE], lent[FIRST], lent[SECOND], lent[S0], lent[S1], lent[S2], lent[S3],
-                                        time, session, in, lengths[INPUT], lent[OUTPUT], lengths[OUTPUT], values);
+        return weavemitten_server_message(numbers(), lent[ZONE], lent[FIRST], lent[SECOND], lent[S0], lent[S1], lent[S2], lent[S3],
+                                          time, session, in, lengths[INPUT], lent[OUTPUT], lengths[OUTPUT], values);
     if (kind == 4)
-        return weavemitten_call_batch(numbers(), lent[ZONE], lent[FIRST], lent[SECOND], lent[S0], lent[S1], lent[S2], lent[S3], time,
-                                      in, lengths[INPUT], lent[OUTPUT], lengths[OUTPUT], values);
-    return weavemitten_call_tick(numbers(), time, values);
+        return weavemitten_server_batch(numbers(), lent[ZONE], lent[FIRST], lent[SECOND], lent[S0], lent[S1], lent[S2], lent[S3], time,
+                                        in, lengths[INPUT], lent[OUTPUT], lengths[OUTPUT], values);
+    return weavemitten_server_tick(numbers(), time, values);
 }
 
 static void one(void) {

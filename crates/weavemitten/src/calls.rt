@@ -68,7 +68,7 @@ fn keep_decision(words: &mut Words, t: u64, decision: Decision) -> u32
 }
 
 #[no_mangle]
-pub extern "C" fn weavemitten_call_start(words: &mut Words, octets: &mut Name, zone: &[u8]) -> u32
+pub extern "C" fn weavemitten_server_start(words: &mut Words, octets: &mut Name, zone: &[u8]) -> u32
     ensures { λ r. ⌜
         Begins (now (zone .entry)) (now (words .entry)) (now (words .exit)) (now (octets .entry)) (now (octets .exit)) r ⌝ }
 {
@@ -82,7 +82,7 @@ pub extern "C" fn weavemitten_call_start(words: &mut Words, octets: &mut Name, z
 }
 
 #[no_mangle]
-pub extern "C" fn weavemitten_call_open(words: &mut Words, time: u64, values: &mut Values) -> u32
+pub extern "C" fn weavemitten_server_open(words: &mut Words, time: u64, values: &mut Values) -> u32
     ensures { λ r. ⌜ (
         (m : Memory)
         → ReturnsWith (now (values .exit)) (now (words .entry)) (now (words .exit)) m [] r
@@ -94,7 +94,7 @@ pub extern "C" fn weavemitten_call_open(words: &mut Words, time: u64, values: &m
 }
 
 #[no_mangle]
-pub extern "C" fn weavemitten_call_close(words: &mut Words, time: u64, session: u64) -> u32
+pub extern "C" fn weavemitten_server_close(words: &mut Words, time: u64, session: u64) -> u32
     ensures { λ r. ⌜ (
         (m : Memory)
         → Returns (now (words .entry)) (now (words .exit)) m [] r
@@ -105,7 +105,7 @@ pub extern "C" fn weavemitten_call_close(words: &mut Words, time: u64, session: 
 }
 
 #[no_mangle]
-pub extern "C" fn weavemitten_call_message(
+pub extern "C" fn weavemitten_server_message(
     words: &mut Words,
     zone: &Name,
     first: &zone::Area,
@@ -149,7 +149,7 @@ pub extern "C" fn weavemitten_call_message(
 }
 
 #[no_mangle]
-pub extern "C" fn weavemitten_call_batch(
+pub extern "C" fn weavemitten_server_batch(
     words: &mut Words,
     zone: &Name,
     first: &mut zone::Area,
@@ -190,7 +190,7 @@ pub extern "C" fn weavemitten_call_batch(
 }
 
 #[no_mangle]
-pub extern "C" fn weavemitten_call_tick(words: &mut Words, time: u64, values: &mut Values) -> u32
+pub extern "C" fn weavemitten_server_tick(words: &mut Words, time: u64, values: &mut Values) -> u32
     ensures { λ r. ⌜ (
         (m : Memory)
         → ReturnsWith (now (values .exit)) (now (words .entry)) (now (words .exit)) m [] r

@@ -2,12 +2,12 @@
 // A slice is any bytes: none, with any pointer, or more than a message can have.
 mod calls;
 
-pub use calls::weavemitten_call_batch;
-pub use calls::weavemitten_call_close;
-pub use calls::weavemitten_call_message;
-pub use calls::weavemitten_call_open;
-pub use calls::weavemitten_call_start;
-pub use calls::weavemitten_call_tick;
+pub use calls::weavemitten_server_batch;
+pub use calls::weavemitten_server_close;
+pub use calls::weavemitten_server_message;
+pub use calls::weavemitten_server_open;
+pub use calls::weavemitten_server_start;
+pub use calls::weavemitten_server_tick;
 use dso::Judgment;
 use dso::ReplyCode;
 use dso::asks_for;

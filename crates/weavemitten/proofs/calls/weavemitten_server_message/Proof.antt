@@ -1,4 +1,4 @@
--- `weavemitten::calls::weavemitten_call_message` meets its contract: what the server gives of its session is kept. Assumes nothing.
+-- `weavemitten::calls::weavemitten_server_message` meets its contract: what the server gives of its session is kept. Assumes nothing.
 use mathlib.Core.Path.{refl}
 use Rattle.service.specs.Call.{receives}
 use Rattle.server.specs.Memory.{memoryOf}
@@ -7,8 +7,8 @@ use Rattle.server_message.proofs.Delivered.{has-context}
 use Rattle.words.specs.Words.{serverOf}
 use Rattle.weavemitten.proofs.Serving.{returned-with}
 use borrow.Author.Needs.{needs}
-use Rattle.weavemitten.proofs.calls.weavemitten_call_message.Statement.{statement}
-use Rattle.weavemitten.proofs.calls.weavemitten_call_message.Tie as tie
+use Rattle.weavemitten.proofs.calls.weavemitten_server_message.Statement.{statement}
+use Rattle.weavemitten.proofs.calls.weavemitten_server_message.Tie as tie
 
 returns : tie.Need-returns
 returns c =
@@ -24,8 +24,8 @@ returns c =
           (g .serves (g .small) s (has-context s (a .session) _ (c .before .before .before .before .before .before .before .before .before .before .before .before .load-context .ensures))) _ (c .before .before .put .ensures);
     }
 
-pub weavemitten-call-message-spec : {M : Type 1} → statement M
-weavemitten-call-message-spec =
+pub weavemitten-server-message-spec : {M : Type 1} → statement M
+weavemitten-server-message-spec =
     tie.close
     (tie.spec
     (λ c κs. search needs)

@@ -1,10 +1,10 @@
--- `weavemitten::calls::weavemitten_call_batch` meets its contract: what the server gives is kept. Assumes nothing.
+-- `weavemitten::calls::weavemitten_server_batch` meets its contract: what the server gives is kept. Assumes nothing.
 use Rattle.service.specs.Call.{edits}
 use Rattle.server.specs.Memory.{memoryOf}
 use Rattle.weavemitten.proofs.Serving.{returned-with}
 use borrow.Author.Needs.{needs}
-use Rattle.weavemitten.proofs.calls.weavemitten_call_batch.Statement.{statement}
-use Rattle.weavemitten.proofs.calls.weavemitten_call_batch.Tie as tie
+use Rattle.weavemitten.proofs.calls.weavemitten_server_batch.Statement.{statement}
+use Rattle.weavemitten.proofs.calls.weavemitten_server_batch.Tie as tie
 
 returns : tie.Need-returns
 returns c =
@@ -17,8 +17,8 @@ returns c =
           (edits (a .time) (record { list = a .bytes .now; small = g .1 }) (a .out .now)) (g .0 (g .1)) _ (c .before .before .put .ensures);
     }
 
-pub weavemitten-call-batch-spec : {M : Type 1} → statement M
-weavemitten-call-batch-spec =
+pub weavemitten-server-batch-spec : {M : Type 1} → statement M
+weavemitten-server-batch-spec =
     tie.close
     (tie.spec
     (λ c κs. search needs)
