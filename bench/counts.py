@@ -4,12 +4,14 @@
 usage: counts.py FOLDER [profiles]
 
 FOLDER has cases.SERVER, the cases in order with how many calls were counted, and count.SERVER.N, callgrind's file of the Nth case.
-Prints state, call, server and instructions a call; or, of some cases of the proved server, case, function and instructions a call.
+Prints state, call, server and instructions a call, of the servers that were counted; or, of some cases of the proved server, case,
+function and instructions a call.
 """
+import os
 import re
 import sys
 
-SERVERS = ["proved", "plain", "incremental", "reference"]
+SERVERS = ["proved", "before", "plain", "incremental", "reference"]
 PROFILED = [
     ("full, all match", "batch of 1: TTL"),
     ("full, all match", "batch of 32: TTLs"),
@@ -80,7 +82,7 @@ def print_profiles(folder):
 
 def main():
     if len(sys.argv) == 2:
-        for server in SERVERS:
+        for server in [server for server in SERVERS if os.path.exists(f"{sys.argv[1]}/cases.{server}")]:
             for state, call, calls, path in cases(sys.argv[1], server):
                 print(f"{state}\t{call}\t{server}\t{total(path) / calls:.1f}")
     elif len(sys.argv) == 3 and sys.argv[2] == "profiles":

@@ -12,18 +12,12 @@ run() { printf '+ %s\n' "$*"; "$@"; }
 run rt staticlib weavemitten
 run cargo build --quiet --release --offline -j1 --manifest-path bench/Cargo.toml
 mkdir -p "$work"
-rm -f "$work"/count.*
 
 echo "+ times, $rounds rounds"
 "$bench" times table "$rounds" >"$work/times.tsv"
 "$bench" times growth "$rounds" >"$work/growth.tsv"
 
-# Callgrind counts inside measured_region alone and writes a file at its end, one for each case, in the order of the cases.
-for server in proved plain incremental reference; do
-    echo "+ instructions, $server"
-    valgrind -q --tool=callgrind --toggle-collect='*measured_region*' --dump-after=bench::measure::measured_region \
-        --callgrind-out-file="$work/count.$server" "$bench" count table "$server" >"$work/cases.$server" 2>"$work/valgrind.$server"
-done
+bench/count.sh "$bench" "$work" proved plain incremental reference
 python3 bench/counts.py "$work" >"$work/counts.tsv"
 python3 bench/counts.py "$work" profiles >"$work/profiles.tsv"
 run python3 bench/report.py "$work/times.tsv" "$work/growth.tsv" "$work/counts.tsv" "$work/profiles.tsv" \
