@@ -9,7 +9,7 @@ const USAGE: &str =
     "usage: bench times table|growth [ROUNDS]   median nanoseconds a call, and of the ratios to the first server
        bench count table|growth SERVER     each case's work ten times, for callgrind; how many calls that is
        bench one SERVER STATE CALL CYCLES  one case's work, for callgrind
-servers: proved, plain, incremental, reference; before, where an earlier build is linked";
+servers: proved, plain, incremental, reference";
 
 /// How long one sample of a round takes.
 const SAMPLE_NS: f64 = 400_000.0;

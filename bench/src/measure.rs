@@ -72,8 +72,7 @@ impl<S: Service> Run for Running<'_, S> {
     }
 }
 
-/// Every server does the same in a case, and its work brings it back to where it began: two cycles more are alike. An earlier build may do
-/// otherwise, by rules that have changed since: that is said, and it is measured all the same.
+/// Every server does the same in a case, and its work brings it back to where it began: two cycles more are alike.
 pub fn check(case: &Case, runs: &mut [Box<dyn Run + '_>]) {
     let mut first = None;
     for run in runs {
@@ -82,11 +81,15 @@ pub fn check(case: &Case, runs: &mut [Box<dyn Run + '_>]) {
         assert!(trace == run.trace(), "{}: '{}' on '{}' does not come back", run.name(), case.call, case.state);
         match &first {
             None => first = Some(trace),
-            Some(other) if *other == trace => {}
-            Some(_) => {
-                let otherwise = format!("{}: '{}' on '{}' is answered otherwise", run.name(), case.call, case.state);
-                assert!(run.name() == "before", "{otherwise}");
-                eprintln!("{otherwise}");
+            // An earlier build may do otherwise, by rules that have changed since: that is said, and it is measured all the same.
+            #[cfg(feature = "before")]
+            Some(other) if run.name() == "before" => {
+                if *other != trace {
+                    eprintln!("before: '{}' on '{}' is answered otherwise", case.call, case.state);
+                }
+            }
+            Some(other) => {
+                assert!(*other == trace, "{}: '{}' on '{}' is answered otherwise", run.name(), case.call, case.state)
             }
         }
     }
