@@ -23,7 +23,7 @@ fn renamed(archives: &[PathBuf], prefix: &str) -> String {
 }
 
 /// Links the library of a tree with the shim compiled for its header. Where two builds are compared, every name of theirs begins with
-/// the prefix, and every function begins a cache line, so that one that is the same in both is as quick in both.
+/// the prefix, and every function begins a cache line, so that functions which are the same stand alike.
 fn link(out: &Path, tree: &Path, library: &Path, prefix: &str, compared: bool) {
     assert!(library.is_file(), "{} is not there: run `rt staticlib weavemitten` first", library.display());
     println!("cargo:rerun-if-changed={}", library.display());

@@ -2,6 +2,7 @@
 # Counts the instructions of every case on some servers, with callgrind.
 # usage: bench/count.sh BENCH FOLDER SERVER...    (BENCH: the harness; counts.py reads what stands in FOLDER then)
 set -eu
+[ $# -ge 3 ] || { sed -n 's/^# usage: /usage: /p' "$0" >&2; exit 2; }
 bench=$1
 work=$2
 shift 2
