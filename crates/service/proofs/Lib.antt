@@ -12,3 +12,5 @@ pub mod Theorem
 pub mod Numbers
 pub mod Examples
 pub mod Bench
+pub mod Share
+pub mod Given

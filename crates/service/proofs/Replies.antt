@@ -32,6 +32,14 @@ zeros (suc n) (suc i) = zeros n i
 abbrev pub counts : ℕ → ℕ → List ℕ
 counts s n = set (replicate maxSessions 0) s n
 
+-- What it states for its own session and for another.
+pub count-own : (s : ℕ) (w : List ℕ) → s < maxSessions → countFor (sent (counts s (length w))) s ≡ length w
+count-own s w inside =
+    getD-set-same (replicate maxSessions 0) s (length w) 0 (omega (arith, length-replicate {A = ℕ} maxSessions 0))
+
+pub count-other : (s : ℕ) (w : List ℕ) (i : ℕ) → (i ≡ s → ⊥) → countFor (sent (counts s (length w))) i ≡ 0
+count-other s w i other = getD-set-other (replicate maxSessions 0) s i (length w) 0 other ∙ zeros maxSessions i
+
 module _ (s : ℕ) (inside : s < maxSessions) (w output : List ℕ) (fits : length w ≤ outputSize)
     (room : leastOutput ≤ length output) where
   abbrev answer : Answer
@@ -40,22 +48,15 @@ module _ (s : ℕ) (inside : s < maxSessions) (w output : List ℕ) (fits : leng
   abbrev after : List ℕ
   after = sets output (s * outputSize) w
 
-  count-own : countFor answer s ≡ length w
-  count-own =
-      getD-set-same (replicate maxSessions 0) s (length w) 0 (omega (arith, length-replicate {A = ℕ} maxSessions 0))
-
-  count-other : (i : ℕ) → (i ≡ s → ⊥) → countFor answer i ≡ 0
-  count-other i other = getD-set-other (replicate maxSessions 0) s i (length w) 0 other ∙ zeros maxSessions i
-
   pub bytes-own : bytesFor answer after s ≡ w
   unfolding bytesFor
   bytes-own =
-      ap (λ (n : ℕ). take n (drop (s * outputSize) after)) count-own
+      ap (λ (n : ℕ). take n (drop (s * outputSize) after)) (count-own s w inside)
       ∙ part-written output (s * outputSize) w (omega arith)
 
   pub bytes-other : (i : ℕ) → (i ≡ s → ⊥) → bytesFor answer after i ≡ []
   unfolding bytesFor
-  bytes-other i other = ap (λ (n : ℕ). take n (drop (i * outputSize) after)) (count-other i other)
+  bytes-other i other = ap (λ (n : ℕ). take n (drop (i * outputSize) after)) (count-other s w i other)
 
   -- Only the stated bytes change.
   pub own-kept : Kept answer output after
@@ -63,13 +64,13 @@ module _ (s : ℕ) (inside : s < maxSessions) (w output : List ℕ) (fits : leng
       record {
         size = length-sets output (s * outputSize) w;
         fits = λ (i : ℕ).
-            ⊎-elim (λ (e : eqb i s ≡ true). omega (arith, count-own, ap (countFor answer) (eqb-true i s e)))
-            (λ (e : eqb i s ≡ false). omega (arith, count-other i (eqb-false i s e))) (decided (eqb i s));
-        four = λ (i : ℕ) (h : maxSessions ≤ i). count-other i (λ (e : i ≡ s). omega arith);
+            ⊎-elim (λ (e : eqb i s ≡ true). omega (arith, count-own s w inside, ap (countFor answer) (eqb-true i s e)))
+            (λ (e : eqb i s ≡ false). omega (arith, count-other s w i (eqb-false i s e))) (decided (eqb i s));
+        four = λ (i : ℕ) (h : maxSessions ≤ i). count-other s w i (λ (e : i ≡ s). omega arith);
         beyond = λ (i k : ℕ) (h : countFor answer i ≤ k) (small : k < outputSize).
             sets-elsewhere output (s * outputSize) w (i * outputSize + k)
             (λ (j : ℕ) (l : j < length w) (e : i * outputSize + k ≡ s * outputSize + j).
-            let same : i ≡ s = omega arith in omega (arith, count-own, ap (countFor answer) same));
+            let same : i ≡ s = omega arith in omega (arith, count-own s w inside, ap (countFor answer) same));
       }
 
   -- Only the client of the session hears something.

@@ -8,3 +8,4 @@ pub mod Call
 pub mod Reader
 pub mod Observer
 pub mod Demand
+pub mod Isolation
