@@ -9,7 +9,7 @@ use mathlib.Core.Logic.{⊎-elim}
 use lib.ListN.{length, getD, set, length-map, List·getD-map, List·getD-eq-default}
 use lib.Seq.{getD-set-same, getD-set-other}
 use lib.Dec.{eqb, ltb}
-use borrow.Author.Tests.{eqb-true, eqb-false, eq-eqb, le-ltb, lt-leb, ltb-true, ltb-false}
+use borrow.Author.Tests.{eqb-true, eqb-false, eq-eqb, lt-leb, ltb-true, ltb-false}
 use Rattle.zone.specs.Lists.{allOf}
 use Rattle.zone.specs.Record.{Record}
 use Rattle.zone.specs.Batch.{batchOf, Edited, stored, faulty}
@@ -62,6 +62,7 @@ use Rattle.service.proofs.Share.{
   untouched,
   ownShare,
   lacking,
+  refusal-lacking,
   checkedShare,
   effectShare,
   batchShare,
@@ -169,8 +170,7 @@ module _ (r : Run) (h : Related r) (s : ℕ) (y : Session) (lives : slotAt (r .s
   -- By the checks, of which those of the time and of the session pass.
   module _ (c : Call) (early : st .latest ≤ brought c .time) (present : isAbsent st (brought c .session) ≡ false) where
     refusal-is : refusalOf st (brought c) ≡ lacking (brought c)
-    unfolding refusalOf
-    refusal-is = rw (le-ltb (brought c .time) (st .latest) early, present)
+    refusal-is = refusal-lacking st (brought c) early present
 
     checked-gives : ((g : Refusal) → lacking (brought c) ≡ some g → answerFor s c (refused g) ≡ some (refused g)) → (x : Share)
         → (Passed st (brought c) → ((i : ℕ) → countFor (passed st c .answer) i ≤ outputSize) → Gives s c (passed st c) x)

@@ -14,3 +14,5 @@ pub mod Examples
 pub mod Bench
 pub mod Share
 pub mod Given
+pub mod Level
+pub mod Isolation

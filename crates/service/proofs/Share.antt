@@ -1,21 +1,21 @@
 -- What a call gives to one session and leaves of it: a function of the zone, the store, the session itself and the call. No
 -- other session has a part in it.
-use Prim.Native.Nat.{ℕ}
+use Prim.Native.Nat.{ℕ, _≤_}
 use mathlib.Core.Bool.{true, false, cond}
 use mathlib.Core.List.{List, []}
 use mathlib.Core.Option.{Option, none, some}
 use mathlib.Core.Path.{_≡_, refl, ap}
 use lib.ListN.{length}
 use lib.Dec.{eqb}
-use borrow.Author.Tests.{not-true}
+use borrow.Author.Tests.{not-true, le-ltb}
 use Rattle.zone.specs.Record.{Record}
 use Rattle.zone.specs.Batch.{batchOf, Edited, stored, faulty}
 use Rattle.zone.proofs.Lists.{clash}
-use Rattle.service.specs.State.{Session, Slot, free, live}
+use Rattle.service.specs.State.{State, Session, Slot, free, live}
 use Rattle.service.specs.Answer.{Answer, done, sent, notOurs, aborted, reconfirm, refused}
-use Rattle.service.specs.Checks.{Brought, isFree, isShort, isLong}
+use Rattle.service.specs.Checks.{Brought, isFree, isShort, isAbsent, isLong, refusalOf}
 use Rattle.service.specs.Message.{Effect, abort, nothing, reply, others, places, messageEffect}
-use Rattle.service.specs.Call.{Call, opens, closes, receives, edits, ticks, refuse, brought, lent, endsAt, pushTo}
+use Rattle.service.specs.Call.{Call, opens, closes, receives, edits, ticks, brought, endsAt, pushTo}
 use Rattle.service.specs.declared.refusal.Refusal.{Refusal}
 use Rattle.service.specs.declared.refusal.Refusal.the-variants.{OutputTooShort, MessageTooLong, Batch}
 use Rattle.service.specs.Isolation.{isOthers, Same, open-too, close-too, message-too, batch-too, tick-too, Seen}
@@ -40,6 +40,11 @@ ownShare s n y x = cond (eqb n s) x (untouched y)
 -- What the checks refuse where the time doesn't go back and the session lives.
 abbrev pub lacking : Brought → Option Refusal
 lacking b = cond (isShort (b .output)) (some OutputTooShort) (cond (isLong (b .message)) (some MessageTooLong) none)
+
+pub refusal-lacking : (st : State) (b : Brought) → st .latest ≤ b .time → isAbsent st (b .session) ≡ false
+    → refusalOf st b ≡ lacking b
+unfolding refusalOf
+refusal-lacking st b early present = rw (le-ltb (b .time) (st .latest) early, present)
 
 abbrev pub checkedShare : Session → Option Refusal → Share → Share
 checkedShare y none x = x

@@ -142,7 +142,7 @@ fresh-related zone =
       places = λ (s : ℕ). nobody maxSessions s [];
     }
 
-start-fresh : (zone : List ℕ) (st : State) → start zone ≡ running st → st ≡ fresh zone
+pub start-fresh : (zone : List ℕ) (st : State) → start zone ≡ running st → st ≡ fresh zone
 unfolding start
 start-fresh zone st e = go (isName zone) e
   where

@@ -1,0 +1,205 @@
+-- Two runs that differ in other sessions' messages: their times stay behind, and they have the same zone and the same store.
+use Prim.Native.Nat.{ℕ, zero, suc, _+_, _-_, _≤_, _<_}
+use native.Mathlib.Omega.{arith}
+use mathlib.Core.Bool.{true, false}
+use mathlib.Core.List.{List, _∷_}
+use mathlib.Core.Option.{Option, none, some}
+use mathlib.Core.Path.{_≡_, refl, sym, ap, ap₂, _∙_}
+use mathlib.Core.Logic.{⊎-elim}
+use lib.ListN.{length}
+use lib.Dec.{leb}
+use borrow.Author.Tests.{leb-true, leb-false}
+use Rattle.zone.specs.Record.{Record}
+use Rattle.zone.specs.Batch.{batchOf, Edited, stored, faulty}
+use Rattle.zone.proofs.Lists.{decided, clash, and-left, and-right}
+use Rattle.service.specs.State.{State}
+use Rattle.service.specs.Answer.{Answer, answerNumber}
+use Rattle.service.specs.Checks.{refusalOf}
+use Rattle.service.specs.Call.{
+  Bytes,
+  Call,
+  opens,
+  closes,
+  receives,
+  edits,
+  ticks,
+  brought,
+  passed,
+  outcome,
+  batchOutcome,
+}
+use Rattle.service.specs.declared.refusal.Refusal.{Refusal}
+use Rattle.service.specs.Observer.{noted, observe}
+use Rattle.service.specs.Demand.{Run, stepped, isBatch}
+use Rattle.service.specs.Isolation.{
+  Event,
+  Trace,
+  calls,
+  Step,
+  onward,
+  isOthers,
+  Same,
+  open-too,
+  close-too,
+  message-too,
+  batch-too,
+  tick-too,
+}
+use Rattle.service.proofs.Numbers.{isListed, numbered}
+use Rattle.service.proofs.Related.{Related}
+use Rattle.service.proofs.Theorem.{step-kept}
+use Rattle.service.proofs.Share.{lacking, refusal-lacking}
+use Rattle.service.proofs.Given.{eventOf}
+
+-- ---- one run, and what it goes on with
+
+-- The latest time is never past that of the last call.
+past-five : (k : ℕ) → isListed (6 + k) ≡ true → 4 ≤ k
+past-five zero e = clash false e refl
+past-five (suc zero) e = clash false e refl
+past-five (suc (suc zero)) e = clash false e refl
+past-five (suc (suc (suc zero))) e = clash false e refl
+past-five (suc (suc (suc (suc k)))) e = omega arith
+
+latest-after : (st : State) (c : Call) → st .latest ≤ brought c .time → outcome st c .next .latest ≤ brought c .time
+latest-after st c h = ⊎-elim accepts refuses (decided (leb (answerNumber (outcome st c .answer)) 5))
+  where
+    accepts : leb (answerNumber (outcome st c .answer)) 5 ≡ true → outcome st c .next .latest ≤ brought c .time
+    accepts e = omega (arith, numbered st c .timed (leb-true (answerNumber (outcome st c .answer)) 5 e))
+
+    refuses : leb (answerNumber (outcome st c .answer)) 5 ≡ false → outcome st c .next .latest ≤ brought c .time
+    refuses e =
+        let n = answerNumber (outcome st c .answer) in
+        let above : 5 < n = leb-false n 5 e in
+        let same : 6 + (n - 6) ≡ n = omega arith in
+        let k : 4 ≤ n - 6 = past-five (n - 6) (ap isListed same ∙ numbered st c .listed) in
+        rw (numbered st c .unchanged (omega arith) .0) h
+
+-- What a run in which state and observer are related goes on with.
+pub record Coming (r : Run) (xs : List Event) : Type 0 where
+  pub related : Related r
+  pub trace : Trace Step (r .state) xs
+  pub since : ℕ
+  pub timely : r .state .latest ≤ since
+  pub times : onward since xs ≡ true
+
+next-event : (st : State) (x : Event) (xs : List Event) → Trace Step st (x ∷ xs)
+    → (x ≡ eventOf (x .call) (outcome st (x .call))) × Trace Step (outcome st (x .call) .next) xs
+next-event st x xs (calls p k) = (
+  ap₂ (λ (a : Answer) (o : List ℕ). record { call = x .call; answer = a; output = o }) (p .answer) (p .output),
+  rw (p .next) at k,
+)
+
+module _ (r : Run) (x : Event) (xs : List Event) (h : Coming r (x ∷ xs)) where
+  pub early : r .state .latest ≤ brought (x .call) .time
+  unfolding onward
+  early =
+      omega (arith, h .timely, leb-true (h .since) (brought (x .call) .time) (and-left (leb (h .since) (brought (x .call) .time)) _ (h .times)))
+
+  pub event-is : x ≡ eventOf (x .call) (outcome (r .state) (x .call))
+  event-is = next-event (r .state) x xs (h .trace) .0
+
+  pub goes-on : Coming (stepped r (x .call)) xs
+  unfolding stepped onward
+  goes-on =
+      record {
+        related = step-kept r (h .related) (x .call);
+        trace = next-event (r .state) x xs (h .trace) .1;
+        since = brought (x .call) .time;
+        timely = latest-after (r .state) (x .call) early;
+        times = and-right (leb (h .since) (brought (x .call) .time)) _ (h .times);
+      }
+
+-- ---- two runs: the zone and the store
+
+pub record Level (r r′ : Run) : Type 0 where
+  pub zones : r .state .zone ≡ r′ .state .zone
+  pub stores : r .state .store ≡ r′ .state .store
+
+-- What the observer knows of both changes with batches alone; and it is the server's.
+zone-observed : (r : Run) (c : Call) → stepped r c .observer .zone ≡ r .observer .zone
+unfolding stepped observe noted
+zone-observed r (opens t) = refl
+zone-observed r (closes t n) = refl
+zone-observed r (receives t n m o) = refl
+zone-observed r (edits t b o) = refl
+zone-observed r (ticks t) = refl
+
+store-observed : (r : Run) (c : Call) → isBatch c ≡ false → stepped r c .observer .store ≡ r .observer .store
+unfolding stepped observe noted
+store-observed r (opens t) e = refl
+store-observed r (closes t n) e = refl
+store-observed r (receives t n m o) e = refl
+store-observed r (edits t b o) e = clash true refl e
+store-observed r (ticks t) e = refl
+
+module _ (r : Run) (h : Related r) where
+  zone-stays : (c : Call) → stepped r c .state .zone ≡ r .state .zone
+  zone-stays c = sym (step-kept r h c .zones) ∙ zone-observed r c ∙ h .zones
+
+  store-stays : (c : Call) → isBatch c ≡ false → stepped r c .state .store ≡ r .state .store
+  store-stays c e = sym (step-kept r h c .stores) ∙ store-observed r c e ∙ h .stores
+
+-- A batch's store: by the checks and its edits.
+abbrev storeAfter : List Record → Option Refusal → Edited → List Record
+storeAfter store (some g) e = store
+storeAfter store none (faulty f) = store
+storeAfter store none (stored new) = new
+
+batch-store : (st : State) (t : ℕ) (b : Bytes) (o : List ℕ) → st .latest ≤ t
+    → outcome st (edits t b o) .next .store ≡ storeAfter (st .store) (lacking (brought (edits t b o))) (batchOf (st .zone) (b .list) (st .store))
+unfolding outcome passed batchOutcome
+batch-store st t b o p = go (lacking (brought (edits t b o))) (refusal-lacking st (brought (edits t b o)) p refl)
+  where
+    carried : (e : Edited) → batchOf (st .zone) (b .list) (st .store) ≡ e
+        → batchOutcome st t (b .list) o .next .store ≡ storeAfter (st .store) none e
+    carried (faulty f) e = rw (e, batchOutcome)
+    carried (stored new) e = rw (e, batchOutcome)
+
+    go : (f : Option Refusal) → refusalOf st (brought (edits t b o)) ≡ f
+        → outcome st (edits t b o) .next .store ≡ storeAfter (st .store) f (batchOf (st .zone) (b .list) (st .store))
+    go (some g) p = rw (p, outcome)
+    go none p = rw (p, outcome) (carried (batchOf (st .zone) (b .list) (st .store)) refl)
+
+-- The same call in both runs.
+pub level-both : (r r′ : Run) → Related r → Related r′ → Level r r′ → {c d : Call} → Same c d → r .state .latest ≤ brought c .time
+    → r′ .state .latest ≤ brought d .time → Level (stepped r c) (stepped r′ d)
+unfolding stepped
+level-both r r′ h h′ l {c} {d} e p p′ =
+    record { zones = zone-stays r h c ∙ l .zones ∙ sym (zone-stays r′ h′ d); stores = stores e p p′ }
+  where
+    quiet : (c d : Call) → isBatch c ≡ false → isBatch d ≡ false → stepped r c .state .store ≡ stepped r′ d .state .store
+    quiet c d p p′ = store-stays r h c p ∙ l .stores ∙ sym (store-stays r′ h′ d p′)
+
+    batch : (t : ℕ) (b : Bytes) (o o′ : List ℕ) → length o ≡ length o′ → r .state .latest ≤ t → r′ .state .latest ≤ t
+        → outcome (r .state) (edits t b o) .next .store ≡ outcome (r′ .state) (edits t b o′) .next .store
+    batch t b o o′ e q q′ =
+        batch-store (r .state) t b o q
+        ∙ ap (λ (k : ℕ). storeAfter (r .state .store) (lacking (record { output = some k; time = t; session = none; message = none })) (batchOf (r .state .zone) (b .list) (r .state .store))) e
+        ∙ ap₂ (λ (z : List ℕ) (l : List Record). storeAfter l (lacking (brought (edits t b o′))) (batchOf z (b .list) l)) (l .zones) (l .stores)
+        ∙ sym (batch-store (r′ .state) t b o′ q′)
+
+    stores : {c d : Call} → Same c d → r .state .latest ≤ brought c .time → r′ .state .latest ≤ brought d .time
+        → stepped r c .state .store ≡ stepped r′ d .state .store
+    stores (open-too t) p p′ = quiet (opens t) (opens t) refl refl
+    stores (close-too t n) p p′ = quiet (closes t n) (closes t n) refl refl
+    stores (message-too t n m o o′ e) p p′ = quiet (receives t n m o) (receives t n m o′) refl refl
+    stores (batch-too t b o o′ e) p p′ = batch t b o o′ e p p′
+    stores (tick-too t) p p′ = quiet (ticks t) (ticks t) refl refl
+
+others-no-batch : (own : Option ℕ) (c : Call) → isOthers own c ≡ true → isBatch c ≡ false
+others-no-batch own (opens t) e = refl
+others-no-batch own (closes t n) e = refl
+others-no-batch own (receives t n m o) e = refl
+others-no-batch own (edits t b o) e = sym e
+others-no-batch own (ticks t) e = refl
+
+-- Another session's message in one of them.
+module _ (own : Option ℕ) (r r′ : Run) (l : Level r r′) where
+  pub level-first : Related r → (c : Call) → isOthers own c ≡ true → Level (stepped r c) r′
+  level-first h c e =
+      record { zones = zone-stays r h c ∙ l .zones; stores = store-stays r h c (others-no-batch own c e) ∙ l .stores }
+
+  pub level-second : Related r′ → (d : Call) → isOthers own d ≡ true → Level r (stepped r′ d)
+  level-second h d e =
+      record { zones = l .zones ∙ sym (zone-stays r′ h d); stores = l .stores ∙ sym (store-stays r′ h d (others-no-batch own d e)) }
