@@ -16,3 +16,4 @@ pub mod Share
 pub mod Given
 pub mod Level
 pub mod Isolation
+pub mod Pair

@@ -3,3 +3,4 @@ pub mod Answers
 pub mod Serving
 pub mod Told
 pub mod Runs
+pub mod Isolation

@@ -37,7 +37,7 @@ begins-positive zone w w′ before after r h = go (isName zone) (h .answer)
 -- ---- demand 3
 
 -- A start answered 1 is the definitions' start.
-begun-state : (zone w w′ before : List ℕ) (m : Memory) → Begins zone w w′ before (m .zone) 1 → Call.start zone ≡ Call.running (heldBy w′ m)
+pub begun-state : (zone w w′ before : List ℕ) (m : Memory) → Begins zone w w′ before (m .zone) 1 → Call.start zone ≡ Call.running (heldBy w′ m)
 unfolding Call.start
 begun-state zone w w′ before m h = go (isName zone) refl
   where
@@ -51,20 +51,19 @@ unfolding stateOf
 held-four w m = refl
 
 -- A step of the code is a step of the definitions.
-module _ (l : Lent) (o : Observer) (c : Call) (r : ℕ) (v w′ : List ℕ) (after : Memory) (output : List ℕ)
-    (s : Step l c r v w′ after output) where
-  answer-told : answerFrom c r v ≡ outcome (heldBy (l .words) (l .memory)) c .answer
+module _ (l : Lent) (c : Call) (r : ℕ) (v w′ : List ℕ) (after : Memory) (output : List ℕ) (s : Step l c r v w′ after output) where
+  pub answer-told : answerFrom c r v ≡ outcome (heldBy (l .words) (l .memory)) c .answer
   answer-told =
       rw (s .returns .answer) (answer-read (heldBy (l .words) (l .memory)) (held-four (l .words) (l .memory)) c v (s .values))
 
-  pub same-step : runOf (lentOf w′ after) (observe c (answerFrom c r v) output o) ≡ stepped (runOf l o) c
+  pub same-step : (o : Observer) → runOf (lentOf w′ after) (observe c (answerFrom c r v) output o) ≡ stepped (runOf l o) c
   unfolding stepped
-  same-step = rw (s .returns .next, s .returns .output, answer-told)
+  same-step o = rw (s .returns .next, s .returns .output, answer-told)
 
 pub runs-related : {zone : List ℕ} {l : Lent} {o : Observer} → Runs zone l o → Related (runOf l o)
 runs-related {zone} (begun w w′ before m h) = begun-related zone (heldBy w′ m) (begun-state zone w w′ before m h)
 runs-related (next {l = l} {o = o} past c r v w′ after output s) =
-    rw (same-step l o c r v w′ after output s) (step-kept (runOf l o) (runs-related past) c)
+    rw (same-step l c r v w′ after output s o) (step-kept (runOf l o) (runs-related past) c)
 
 -- Demand 3: in every run from a start answered 1, for every next call whatever its arguments, with the number, the values and
 -- the output that the call gave, and what the lent words and memory hold then.
@@ -72,5 +71,5 @@ pub demand-three : {zone : List ℕ} {l : Lent} {o : Observer} → Runs zone l o
     → (c : Call) (r : ℕ) (v w′ : List ℕ) (after : Memory) (output : List ℕ) → Step l c r v w′ after output
     → Holds o c (answerFrom c r v) output (heldBy w′ after)
 demand-three {l = l} {o = o} past c r v w′ after output s =
-    rw (s .returns .next, s .returns .output, answer-told l o c r v w′ after output s)
+    rw (s .returns .next, s .returns .output, answer-told l c r v w′ after output s)
     (holds-of (runOf l o) (runs-related past) c)

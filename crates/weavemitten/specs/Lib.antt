@@ -3,3 +3,4 @@ pub mod Questions
 pub mod Calls
 pub mod Told
 pub mod Runs
+pub mod Isolation
