@@ -1,7 +1,7 @@
 -- Every outcome gives a session its share.
 use Prim.Native.Nat.{ℕ, suc, _≤_, _<_}
 use native.Mathlib.Omega.{arith}
-use mathlib.Core.Bool.{Bool, true, false, cond, not, and-false}
+use mathlib.Core.Bool.{Bool, true, false, cond, _&&_, and-false}
 use mathlib.Core.List.{List, [], _∷_, map}
 use mathlib.Core.Option.{Option, none, some, Option·map}
 use mathlib.Core.Path.{_≡_, refl, sym, ap, _∙_}
@@ -16,8 +16,8 @@ use Rattle.zone.specs.Batch.{batchOf, Edited, stored, faulty}
 use Rattle.zone.proofs.Lists.{decided}
 use Rattle.service.specs.State.{State, Session, Slot, free, live, slotAt, maxSessions, lowestFree}
 use Rattle.service.specs.Answer.{Answer, done, opened, sent, refused, answerNumber}
-use Rattle.service.specs.Checks.{refusalOf, isFree, isAbsent, outputSize, leastOutput}
-use Rattle.service.specs.Message.{Effect, abort, nothing, reply, others, places, messageEffect}
+use Rattle.service.specs.Checks.{refusalOf, isFree, isShort, isAbsent, outputSize, leastOutput}
+use Rattle.service.specs.Message.{Effect, abort, nothing, reply, others, places}
 use Rattle.service.specs.Call.{
   Bytes,
   Call,
@@ -209,13 +209,6 @@ module _ (r : Run) (h : Related r) (s : ℕ) (y : Session) (lives : slotAt (r .s
   effect-gives c known ends t o room (others x) fits = quiet-gives c t (live x) _ o (known _) refl (ends _)
   effect-gives c known ends t o room (places x p) fits = quiet-gives c t (live x) _ o (known _) refl (ends _)
 
-  message-gives : (t : ℕ) (m : Bytes) (o : List ℕ) → leastOutput ≤ length o
-      → ((i : ℕ) → countFor (messageOutcome st t s (m .list) o .answer) i ≤ outputSize)
-      → Gives s (receives t s m o) (messageOutcome st t s (m .list) o) (effectShare s (messageEffect (st .zone) (st .store) t (m .list) y))
-  unfolding messageOutcome
-  message-gives t m o room =
-      rw lives (effect-gives (receives t s m o) (λ a. rw (eq-eqb s s refl)) (λ a. rw (eq-eqb s s refl)) t o room (messageEffect (st .zone) (st .store) t (m .list) y))
-
   close-gives : (t : ℕ) → Gives s (closes t s) (closeOutcome st t s) (record { answer = some done; bytes = []; slot = free })
   unfolding closeOutcome answerNumber
   close-gives t = quiet-gives (closes t s) t free done [] (rw (eq-eqb s s refl)) refl (rw (eq-eqb s s refl))
@@ -291,6 +284,29 @@ module _ (r : Run) (h : Related r) (s : ℕ) (y : Session) (lives : slotAt (r .s
           rw e
           (foreign-gives (c n) (foreign n e) (other n (foreign n e) (λ (p : s ≡ n). eqb-false n s e (sym p))))
 
+  -- A call that is an effect on the slot under its number, and that ends the session with answer 4 alone.
+  effect-call : (c : ℕ → Call) (t : ℕ) (o : List ℕ) (f : Slot → Effect)
+      → ((n : ℕ) → passed st (c n) ≡ effectOutcome st t n o (f (slotAt st n)))
+      → ((n : ℕ) (a : Answer) → answerFor s (c n) a ≡ cond (eqb n s) (some a) none)
+      → ((n : ℕ) (a : Answer) → endsBy s (c n) a ≡ (eqb n s && eqb (answerNumber a) 4))
+      → st .latest ≤ brought (c s) .time → isAbsent st (brought (c s) .session) ≡ false
+      → (isShort (brought (c s) .output) ≡ false → leastOutput ≤ length o) → (n : ℕ)
+      → Gives s (c n) (outcome st (c n)) (ownShare s n y (checkedShare y (lacking (brought (c s))) (effectShare s (f (live y)))))
+  effect-call c t o f is known ends early present room =
+      numbered-gives c _ (λ n e. record { hidden = λ a. rw (known n a, e); harmless = λ a. rw (ends n a, e) })
+      (λ n g away. rw (is n) (other-effect (c n) g t n o (f (slotAt st n)) away))
+      (checked-gives (c s) early present (λ g p. own-known (refused g)) _ own)
+    where
+      own-known : (a : Answer) → answerFor s (c s) a ≡ some a
+      own-known a = rw (known s a, eq-eqb s s refl)
+
+      own-ends : (a : Answer) → endsBy s (c s) a ≡ eqb (answerNumber a) 4
+      own-ends a = rw (ends s a, eq-eqb s s refl)
+
+      own : Passed st (brought (c s)) → ((i : ℕ) → countFor (passed st (c s) .answer) i ≤ outputSize)
+          → Gives s (c s) (passed st (c s)) (effectShare s (f (live y)))
+      own p = rw (is s, lives) (effect-gives (c s) own-known own-ends t o (room (p .roomy)) (f (live y)))
+
   -- No refusal where nothing can be lacking.
   lacks-nothing : {A : Type 0} (g : Refusal) → none ≡ some g → A
   lacks-nothing g p = absurd (let z : _≡_ {A = ℕ} 0 1 = cc in omega arith)
@@ -303,10 +319,8 @@ module _ (r : Run) (h : Related r) (s : ℕ) (y : Session) (lives : slotAt (r .s
       (λ n f away. other-gives (closes t n) f t n free done [] away refl)
       (checked-gives (closes t s) early own-present (λ g. lacks-nothing g) _ (λ p fits. close-gives t)) n
   gives (receives t n m o) early =
-      numbered-gives (λ (n : ℕ). receives t n m o) _ (λ n e. record { hidden = λ a. rw e; harmless = λ a. rw e })
-      (λ n f away. other-effect (receives t n m o) f t n o (effectAt st t (m .list) (slotAt st n)) away)
-      (checked-gives (receives t s m o) early own-present (λ g p. rw (eq-eqb s s refl)) _
-      (λ p fits. message-gives t m o (ltb-false (length o) leastOutput (p .roomy)) fits)) n
+      effect-call (λ (n : ℕ). receives t n m o) t o (effectAt st t (m .list)) (λ n. refl) (λ n a. refl) (λ n a. refl) early own-present
+      (ltb-false (length o) leastOutput) n
   gives (edits t b o) early =
       checked-gives (edits t b o) early refl (λ g p. refused-level t b o g) _
       (λ p fits. batch-gives t b o (ltb-false (length o) leastOutput (p .roomy)) fits)
