@@ -49,7 +49,7 @@ use Rattle.service.specs.declared.refusal.Refusal.{Refusal}
 use Rattle.service.specs.declared.refusal.Refusal.the-variants.{AllOpen, Batch}
 use Rattle.service.specs.Reader.{countFor, bytesFor}
 use Rattle.service.specs.Demand.{Run}
-use Rattle.service.specs.Isolation.{Event, levelled, answerFor, endsBy, seen}
+use Rattle.service.specs.Isolation.{eventOf, levelled, answerFor, endsBy, seen}
 use Rattle.service.proofs.Related.{Related}
 use Rattle.service.proofs.Quiet.{refusal-not}
 use Rattle.service.proofs.Checks.{Passed, checks-passed}
@@ -68,9 +68,6 @@ use Rattle.service.proofs.Share.{
   batchShare,
   share,
 }
-
-abbrev pub eventOf : Call → Outcome → Event
-eventOf c x = record { call = c; answer = x .answer; output = x .output }
 
 pub record Gives (s : ℕ) (c : Call) (x : Outcome) (y : Share) : Type 0 where
   pub sees : seen s (eventOf c x) ≡ seenOf y

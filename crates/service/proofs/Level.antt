@@ -33,6 +33,7 @@ use Rattle.service.specs.Observer.{noted, observe}
 use Rattle.service.specs.Demand.{Run, stepped, isBatch}
 use Rattle.service.specs.Isolation.{
   Event,
+  eventOf,
   Trace,
   calls,
   Step,
@@ -49,7 +50,6 @@ use Rattle.service.proofs.Numbers.{isListed, numbered}
 use Rattle.service.proofs.Related.{Related}
 use Rattle.service.proofs.Theorem.{step-kept}
 use Rattle.service.proofs.Share.{lacking, refusal-lacking}
-use Rattle.service.proofs.Given.{eventOf}
 
 -- ---- one run, and what it goes on with
 

@@ -41,11 +41,11 @@ use Rattle.service.specs.Answer.{answerNumber, done, sent}
 use Rattle.service.specs.Checks.{refusalOf, leastOutput}
 use Rattle.service.specs.Message.{asked, subscribed, keptAlive, answered, messageEffect}
 use Rattle.service.specs.Call.{
-  edits,
   Call,
   opens,
   closes,
   receives,
+  edits,
   ticks,
   running,
   start,
@@ -77,6 +77,7 @@ use Rattle.service.proofs.Examples.{
 }
 use Rattle.service.specs.Isolation.{
   Event,
+  eventOf,
   Trace,
   stops,
   calls,
@@ -100,8 +101,7 @@ use Rattle.service.specs.Isolation.{
 -- The events of calls from a state on.
 unfoldable pub ran : State → List Call → List Event
 ran st [] = []
-ran st (c ∷ cs) =
-    let x = outcome st c in record { call = c; answer = x .answer; output = x .output } ∷ ran (x .next) cs
+ran st (c ∷ cs) = let x = outcome st c in eventOf c x ∷ ran (x .next) cs
 
 -- They are a run of the definitions.
 ran-traced : (st : State) (cs : List Call) → Trace Step st (ran st cs)

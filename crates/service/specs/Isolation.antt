@@ -21,7 +21,7 @@ use Rattle.service.specs.Answer.{
   refused,
   answerNumber,
 }
-use Rattle.service.specs.Call.{Bytes, Call, opens, closes, receives, edits, ticks, brought, outcome}
+use Rattle.service.specs.Call.{Bytes, Call, Outcome, opens, closes, receives, edits, ticks, brought, outcome}
 use Rattle.service.specs.Reader.{countFor, bytesFor}
 use Rattle.service.specs.Demand.{isDone}
 
@@ -32,6 +32,9 @@ pub record Event : Type 0 where
   pub call : Call
   pub answer : Answer
   pub output : List ℕ
+
+abbrev pub eventOf : Call → Outcome → Event
+eventOf c x = record { call = c; answer = x .answer; output = x .output }
 
 -- A run from what h holds on: `step h x k` says that the call of x on what h holds gives the answer and the output of x, and
 -- leaves k. What is held, and what a step is, is all that differs between the definitions, the code and the C library.
