@@ -1,7 +1,7 @@
 #!/bin/sh
 # Shows the replay program at work at once, without the proofs: `rt try` runs it on the interpreter and compiled in three
 # ways, and holds what each wrote to the expected lines, which are then printed. It proves nothing.
-# usage: examples/try.sh [first|bench]     (which script of this folder; default: first)
+# usage: examples/try.sh [first|bench|loud|silent]     (which script of this folder; default: first)
 set -eu
 cd "$(dirname "$0")/.."
 name=${1:-first}

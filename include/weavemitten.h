@@ -62,6 +62,11 @@ uint32_t weavemitten_match(const uint8_t *asked_name, size_t asked_name_length, 
  * any order, with the time in milliseconds on a clock of its own that never goes back. The calls work on any lent memory, of
  * any content, and write nowhere else; what they answer makes sense on a server that has been started and that nobody else
  * has written since. Calls on one server must not run at the same time.
+ *
+ * One session cannot disturb another: whatever the others send, more or less of it, a session gets the same answers to its
+ * own messages and close, the same bytes in its part of the output and the same end. That holds between two runs in which
+ * the host makes the same opens, closes, batches and ticks, with the same times and lengths of output, and in which its
+ * open gave it the same number. It says nothing of the time that calls take, and others may hold all four sessions.
  */
 enum { WEAVEMITTEN_SESSIONS = 4, WEAVEMITTEN_NUMBERS = 28, WEAVEMITTEN_VALUES = 8 };
 

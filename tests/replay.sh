@@ -35,6 +35,14 @@ run examples/try.sh first
 run examples/try.sh bench
 same examples/first.script examples/first.expected
 same examples/bench.script examples/bench.expected
+for name in loud silent; do
+  same "examples/$name.script" "examples/$name.expected"
+  "$reference" replay <"examples/$name.script" | cmp - "examples/$name.expected"
+  # What session 0 gets behind its open.
+  sed -n '/^[a-z]*\t[0-9]*\t0\t/p' "examples/$name.expected" | sed 1d >"$dir/$name"
+done
+run cmp "$dir/loud" "$dir/silent"
+[ "$(wc -l <"$dir/loud")" -eq 3 ]
 run "$reference" bench --in "$dir/bench.in" --out "$dir/bench.out"
 run cmp "$dir/bench.in" examples/bench.script
 run cmp "$dir/bench.out" examples/bench.expected
