@@ -1,6 +1,7 @@
 #!/bin/sh
 # Errors put on purpose into a copy of the independent program's server: the comparison must find each of them within the runs
-# of the gate, and says at which line. The copy is one program; ERROR names the error that it makes.
+# of the gate, and says at which line. Disturbances are errors by which one session is told of another; the pairs of runs must
+# find each of them, by what the copy itself prints. The copy is one program; ERROR names the error that it makes.
 set -eu
 cd "$(dirname "$0")/.."
 . tests/lib/runs.sh
@@ -10,6 +11,7 @@ rm -rf "$out"
 mkdir -p "$out"
 modules='call craft hex message name notices random replay server zone'
 errors=
+disturbances=
 
 for module in $modules; do cp "$src/$module.rs" "$out/"; done
 {
@@ -34,6 +36,13 @@ RUST
 # line, or put lines before or behind exactly one.
 error() {
     case " $errors " in *" $1 "*) ;; *) errors="$errors $1" ;; esac
+    edit "$@"
+}
+disturbance() {
+    case " $disturbances " in *" $1 "*) ;; *) disturbances="$disturbances $1" ;; esac
+    edit "$@"
+}
+edit() {
     sed "$(printf '%s' "$3" | sed "s/WRONG/crate::wrong(\"$1\")/g")" "$out/$2.rs" >"$out/$2.new"
     hunks=$(diff "$out/$2.rs" "$out/$2.new" | grep -c '^[0-9]' || true)
     if [ "$hunks" -ne 1 ]; then
@@ -102,30 +111,67 @@ error new-spelling-told notices 's/other.same(record) \&\& (/other.same(record) 
 error type-of-all-classes-any notices 's/Scope::AllClasses => (name, 0, ANY/Scope::AllClasses => (name, if WRONG { ANY } else { 0 }, ANY/'
 error first-push-without-the-known server 's/records.iter().filter(|record| zone::matches(&question, record))/records.iter().filter(|record| zone::matches(\&question, record) \&\& !(WRONG \&\& session.subscriptions.iter().any(|s| zone::matches(\&s.question, record))))/'
 
+# ---- disturbances, with what the other sessions hold at hand where a message is judged and where a batch is told
+edit none server 's/^        let live = self.sessions\[number\].as_mut()/        let beside: Vec<Subscription> = self.sessions.iter().enumerate().filter(|(other, _)| *other != number).filter_map(|(_, live)| live.as_ref()).flat_map(|live| live.subscriptions.clone()).collect();\n&/'
+judged() { disturbance "$1" server "s/^        let judgment = judge_in_session(.*\$/&\n        let judgment = if WRONG \&\& $2 { Judgment { verdict: $3, ..judgment } } else { judgment };/"; }
+answered() { disturbance "$1" server "s/^        let (answer, output) = respond(.*\$/&\n        if WRONG { if let $2 = message::judge(bytes).verdict { self.sessions.iter_mut().flatten().for_each(|live| $3); } }/"; }
+judged subscriptions-limited-together 'matches!(judgment.verdict, Verdict::Subscribe(_)) \&\& live.subscriptions.len() + beside.len() >= 24' 'Verdict::Error(ErrorCode::ServFail)'
+judged used-id-of-any-session 'matches!(judgment.verdict, Verdict::Keepalive | Verdict::Subscribe(_)) \&\& beside.iter().any(|other| other.id == message::id(bytes))' 'Verdict::Abort'
+judged question-of-any-session 'matches!(\&judgment.verdict, Verdict::Subscribe(asked) if beside.iter().any(|other| other.question.same(asked)))' 'Verdict::Abort'
+answered unsubscribe-for-all 'Verdict::Unsubscribe(id)' 'live.subscriptions.retain(|other| other.id != id)'
+answered interval-for-all 'Verdict::Keepalive' 'live.clocks.interval = GRANTED_INTERVAL'
+disturbance clock-of-the-next-session server 's/^        let live = self.sessions\[number\].as_mut()/        if let (true, Some(next)) = (WRONG, self.sessions[(number + 1) % SESSIONS].as_mut()) { next.clocks.keepalive_start = time; }\n&/'
+disturbance first-push-without-what-others-know server 's/^        let (answer, output) = respond(live, &self.records, /        let known = |record: \&Record| WRONG \&\& beside.iter().any(|other| zone::matches(\&other.question, record));\n        let records: Vec<Record> = self.records.iter().filter(|record| !known(record)).cloned().collect();\n        let (answer, output) = respond(live, \&records, /'
+disturbance abort-ends-the-next-session server 's/^            self.sessions\[number\] = None;$/&\n            if WRONG { self.sessions[(number + 1) % SESSIONS] = None; }/'
+disturbance open-takes-a-living-session server 's/^            return Outcome::refused(Refusal::AllOpen);$/            if WRONG { self.sessions[SESSIONS - 1] = Some(Session { subscriptions: Vec::new(), clocks: Clocks::new(time) }); }\n&/'
+disturbance subscriptions-left-by-an-abort server 's/^            self.sessions\[number\] = None;$/            if WRONG { LEFT.with(|left| left.borrow_mut()[number] = live.subscriptions.clone()); }\n&/'
+disturbance subscriptions-left-by-an-abort server 's/^fn refusal_of(.*$/thread_local! { static LEFT: std::cell::RefCell<[Vec<Subscription>; SESSIONS]> = Default::default(); }\n&/'
+disturbance subscriptions-left-by-an-abort server 's/Some(Session { subscriptions: Vec::new(), clocks: Clocks::new(time) });$/Some(Session { subscriptions: if WRONG { LEFT.with(|left| std::mem::take(\&mut left.borrow_mut()[free])) } else { Vec::new() }, clocks: Clocks::new(time) });/'
+disturbance told-once-a-batch server 's/^        for (number, session) in self.sessions.iter().enumerate() {$/        let mut told: Vec<Change> = Vec::new();\n&/'
+disturbance told-once-a-batch server 's/^            let list = changes(.*$/&\n            let list: Vec<Change> = list.into_iter().filter(|change| !(WRONG \&\& told.contains(change))).collect();\n            told.extend(list.iter().cloned());/'
+disturbance pushes-share-their-room server 's/^                outcome.output\[number\] = prefixed(&push(&list));$/&\n                if WRONG \&\& outcome.output.iter().map(Vec::len).sum::<usize>() > SESSION_OUTPUT { outcome.output[number].clear(); }/'
+disturbance tick-at-the-latest-time server 's/^            Call::Tick { time } => self.tick(\*time),$/            Call::Tick { time } => self.tick(if WRONG { self.latest } else { *time }),/'
+disturbance open-starts-at-the-latest-time server 's/^            Call::Open { time } => self.open(\*time),$/            Call::Open { time } => self.open(if WRONG { self.latest } else { *time }),/'
+disturbance reconfirm-deletes-the-record server 's/^        let (answer, output) = respond(.*$/&\n        if let (true, Answer::Reconfirm(p)) = (WRONG, answer) { let part = |at: message::Place| \&bytes[at.start..at.start + at.length]; self.records.retain(|r| !(crate::name::same(\&r.name, part(p.name)) \&\& r.rtype.to_be_bytes() == part(p.rtype) \&\& r.class.to_be_bytes() == part(p.class) \&\& r.rdata == part(p.rdata))); }/'
+disturbance tick-ends-one-session server 's/^                \*place = None;$/                if WRONG \&\& outcome.ended.contains(\&true) { continue; }\n&/'
+
 run rustc --edition 2021 -O -o "$out/mutant" "$out/main.rs"
 run cargo build --quiet --release -j1 --manifest-path tests/reference/Cargo.toml
 
-# Without an error the copy is the server itself.
-$reference compare --language replay --seed "$seed" --calls 5000 -- "$out/mutant" >"$out/none.txt" || {
-    echo "mutants: the copy without an error differs"
-    cat "$out/none.txt"
-    exit 1
-}
+# Without an error the copy is the server itself, and does not disturb.
+for command in compare pairs; do
+    $reference "$command" --language replay --seed "$seed" --calls 5000 -- "$out/mutant" >"$out/none.txt" || {
+        echo "mutants: the copy without an error differs"
+        cat "$out/none.txt"
+        exit 1
+    }
+done
 
 missed=0
 found=0
-for error in $errors; do
-    status=0
-    ERROR=$error $reference compare --language replay --seed "$seed" --calls "$calls" -- "$out/mutant" >"$out/$error.txt" || status=$?
-    if [ "$status" -eq 1 ] && grep -aq '^difference: ' "$out/$error.txt"; then
-        found=$((found + 1))
-        printf '%-38s ' "$error"
-        sed -n '1s/^difference: //p' "$out/$error.txt" | tr '\n' ' '
-        sed -n 's/.*so do these \([0-9]*\),.*/(\1 lines show it)/p' "$out/$error.txt"
-    else
-        missed=$((missed + 1))
-        echo "$error: not found"
-    fi
-done
+# search COMMAND CALLS ERROR...: what the command says of each error.
+search() {
+    command=$1 most=$2
+    shift 2
+    for error in "$@"; do
+        status=0
+        ERROR=$error $reference "$command" --language replay --seed "$seed" --calls "$most" -- "$out/mutant" >"$out/$error.txt" || status=$?
+        if [ "$status" -eq 1 ] && grep -aq '^difference: ' "$out/$error.txt"; then
+            found=$((found + 1))
+            printf '%-38s ' "$error"
+            sed -n '1s/^difference: //p' "$out/$error.txt" | tr '\n' ' '
+            sed -n 's/.*so do these \([0-9]*\),.*/(\1 lines show it)/p' "$out/$error.txt"
+        else
+            missed=$((missed + 1))
+            echo "$error: not found"
+        fi
+    done
+}
+# shellcheck disable=SC2086
+search compare "$calls" $errors
 echo "$found errors found, $missed not found"
-[ "$missed" -eq 0 ] && [ "$found" -gt 0 ]
+errors_found=$found found=0
+# shellcheck disable=SC2086
+search pairs "$calls" $disturbances
+echo "$found disturbances found; in all $((errors_found + found)) errors found, $missed not found"
+[ "$missed" -eq 0 ] && [ "$errors_found" -gt 0 ] && [ "$found" -gt 0 ]

@@ -190,7 +190,7 @@ module _ (r : Run) (h : Related r) (s : ℕ) (y : Session) (lives : slotAt (r .s
   unfolding bytesFor
   quiet-gives c t x a o e z f = record { sees = rw (e, z, f); leaves = getD-set-same (st .slots) s x free in-slots }
 
-  -- An effect on its slot, by a call that it ends with answer 4 alone.
+  -- An effect on its slot, by a call that ends it with answer 4 alone.
   effect-gives : (c : Call) → ((a : Answer) → answerFor s c a ≡ some a) → ((a : Answer) → endsBy s c a ≡ eqb (answerNumber a) 4)
       → (t : ℕ) (o : List ℕ) → leastOutput ≤ length o → (x : Effect)
       → ((i : ℕ) → countFor (effectOutcome st t s o x .answer) i ≤ outputSize) → Gives s c (effectOutcome st t s o x) (effectShare s x)

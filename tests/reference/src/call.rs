@@ -25,6 +25,16 @@ impl Call {
         }
     }
 
+    pub fn set_time(&mut self, new: u64) {
+        match self {
+            Call::Open { time }
+            | Call::Close { time, .. }
+            | Call::Message { time, .. }
+            | Call::Batch { time, .. }
+            | Call::Tick { time } => *time = new,
+        }
+    }
+
     pub fn verb(&self) -> &'static str {
         match self {
             Call::Open { .. } => "open",

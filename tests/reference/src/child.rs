@@ -1,4 +1,4 @@
-//! A child process that is given its whole input and heard to its end.
+//! A child process that is given its whole input and heard to its end; several of them at once.
 
 use std::io::{self, Read, Write};
 use std::process::{Command, Stdio};
@@ -50,6 +50,16 @@ pub fn hear(command: &[String], input: &[u8]) -> io::Result<Heard> {
             (false, true) => None,
         };
         Ok(Heard { output, complaint: complaint.map(|text| text + &first_line(&errors)) })
+    })
+}
+
+/// What is done for a seed, for as many seeds from one on as the machine can do at once.
+pub fn at_once<T: Send>(seed: u64, one: impl Fn(u64) -> io::Result<T> + Sync) -> io::Result<Vec<T>> {
+    let count = thread::available_parallelism().map_or(1, |count| count.get().min(4)) as u64;
+    let one = &one;
+    thread::scope(|scope| {
+        let workers: Vec<_> = (0..count).map(|number| scope.spawn(move || one(seed.wrapping_add(number)))).collect();
+        workers.into_iter().map(|worker| worker.join().expect("a run does not panic")).collect()
     })
 }
 

@@ -1,11 +1,11 @@
 //! Random runs through a child process that speaks the replay language, held line by line to this server.
 
-use crate::child::hear;
+use crate::child::{at_once, hear};
 use crate::line_runs::Run;
+use crate::narrow::leave_out;
 use crate::player::Language;
 use crate::tally::Tally;
 use std::io;
-use std::thread;
 use std::time::{Duration, Instant};
 
 const LINES_PER_RUN: usize = 1_000;
@@ -68,12 +68,7 @@ impl Comparison {
             let place = self.difference(&run)?;
             Ok((run, place))
         };
-        let at_once = thread::available_parallelism().map_or(1, |count| count.get().min(4)) as u64;
-        thread::scope(|scope| {
-            let workers: Vec<_> =
-                (0..at_once).map(|number| scope.spawn(move || one(seed.wrapping_add(number)))).collect();
-            workers.into_iter().map(|worker| worker.join().expect("a run does not panic")).collect()
-        })
+        at_once(seed, one)
     }
 
     /// The first line to which the child says something else.
@@ -104,7 +99,7 @@ impl Comparison {
         let prefix = self.shortest_prefix(&run, place.line)?;
         let ended = run.ended || prefix < run.lines.len();
         let mut lines = run.lines[..prefix].to_vec();
-        self.leave_out(&mut lines, ended)?;
+        leave_out(&mut lines, |fewer| Ok(self.difference(&Run::of(self.language, fewer.to_vec(), ended))?.is_some()))?;
         let shortest = self.difference(&Run::of(self.language, lines.clone(), ended))?;
         let calls = runs * LINES_PER_RUN as u64 + place.line as u64;
         Ok(Difference { seed, calls, shortest: shortest.unwrap_or_else(|| place.clone()), place, prefix, lines })
@@ -125,26 +120,6 @@ impl Comparison {
             }
         }
         Ok(high)
-    }
-
-    /// Leaves out lines while a difference stays: long stretches first, then line by line until none can go.
-    fn leave_out(&self, lines: &mut Vec<Vec<u8>>, ended: bool) -> io::Result<()> {
-        let mut stretch = lines.len().div_ceil(2);
-        while stretch > 0 {
-            let (mut at, before) = (0, lines.len());
-            while at < lines.len() {
-                let mut fewer = lines.clone();
-                fewer.drain(at..(at + stretch).min(lines.len()));
-                match self.difference(&Run::of(self.language, fewer.clone(), ended))? {
-                    Some(_) => *lines = fewer,
-                    None => at += stretch,
-                }
-            }
-            if stretch > 1 || lines.len() == before {
-                stretch /= 2;
-            }
-        }
-        Ok(())
     }
 }
 

@@ -100,7 +100,7 @@ impl Generator {
             0 => Call::Open { time },
             1 => Call::Close { time, session: self.session(server) },
             2..=4 => Call::Tick { time },
-            5..=19 => Call::Batch { time, edits: edits::sensible(server, &self.pool, &mut self.random) },
+            5..=19 => Call::Batch { time, edits: self.edits(server) },
             _ => {
                 let session = self.session(server);
                 let bytes = self.request(server.sessions.get(session as usize).and_then(Option::as_ref));
@@ -110,7 +110,7 @@ impl Generator {
     }
 
     /// A message that a client might well send.
-    fn request(&mut self, session: Option<&Session>) -> Vec<u8> {
+    pub fn request(&mut self, session: Option<&Session>) -> Vec<u8> {
         let held: Vec<u16> = session
             .map_or(Vec::new(), |session| session.subscriptions.iter().map(|subscription| subscription.id).collect());
         let random = &mut self.random;
@@ -133,6 +133,16 @@ impl Generator {
             _ if random.once_in(2) => again(session, id, random).unwrap_or_default(),
             _ => craft::message(id, (random.number() as u16) & 0x7fff, &[]),
         }
+    }
+
+    /// A batch that a zone's owner might well send.
+    pub fn edits(&mut self, server: &Server) -> Vec<u8> {
+        edits::sensible(server, &self.pool, &mut self.random)
+    }
+
+    /// A name at or below the zone that is drawn often.
+    pub fn name(&mut self) -> Vec<u8> {
+        self.pool.name(&mut self.random)
     }
 
     fn damaged(&mut self, server: &Server) -> Call {

@@ -24,8 +24,12 @@ pub const STEPS: [Step; 9] =
     [Step::Clear, Step::Clear, Step::Retouch, Step::Ask, Step::Fill, Step::Ask, Step::Fill, Step::Clear, Step::Clear];
 
 pub fn line(step: Step, server: &Server, random: &mut Random) -> Vec<u8> {
+    write_line(&call(step, server, random)).into_bytes()
+}
+
+pub fn call(step: Step, server: &Server, random: &mut Random) -> Call {
     let time = server.latest;
-    let call = match step {
+    match step {
         Step::Clear => Call::Batch { time, edits: again(&server.records, |_| TTL_ONE) },
         Step::Fill => Call::Batch { time, edits: fill(server, random) },
         Step::Ask => {
@@ -36,8 +40,7 @@ pub fn line(step: Step, server: &Server, random: &mut Random) -> Vec<u8> {
             Call::Message { time, session, bytes: craft::subscribe(id, &longest(server), rtype, 255) }
         }
         Step::Retouch => Call::Batch { time, edits: again(&server.records, |ttl| (ttl + 1) & 0x7fff_ffff) },
-    };
-    write_line(&call).into_bytes()
+    }
 }
 
 /// A name of 255 octets in the zone.

@@ -22,7 +22,7 @@ pub fn request(session: Option<&Session>, zone: &[u8], random: &mut Random) -> V
 }
 
 /// A SUBSCRIBE for what no live subscription asks.
-fn another(live: &[Subscription], id: u16, zone: &[u8], random: &mut Random) -> Vec<u8> {
+pub fn another(live: &[Subscription], id: u16, zone: &[u8], random: &mut Random) -> Vec<u8> {
     loop {
         let name = below(zone, &[b"n", &[b'0' + random.below(10) as u8]]);
         let question = Question { name, rtype: random.below(3) as u16, class: 1 };

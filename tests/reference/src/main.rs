@@ -3,12 +3,14 @@
 use reference::{
     bench_script, hex, kind_cases, match_cases, name_cases, push_cases, reach, replay, script, selftest, vectors,
 };
+use reference::{compare::Comparison, pairs::Pairs, player::Language};
 use std::collections::HashMap;
 use std::io::{self, BufWriter, Read, Write};
 use std::process::ExitCode;
 
 const USAGE: &str = "usage: reference replay | \
 compare --language replay|service --seed N --calls N -- PROGRAM [ARGUMENT]... | \
+pairs --language replay|service --seed N --calls N -- PROGRAM [ARGUMENT]... | \
 script --seed N --lines N | kinds --seed N --count N | \
 matches --seed N --count N | names --seed N --in FILE --out FILE | pushes --seed N --in FILE --out FILE | \
 selftest --seed N --calls N | bench --in FILE --out FILE | vectors --seed N --in FILE --out FILE | \
@@ -141,9 +143,8 @@ fn test_itself(options: Options) -> Result<ExitCode, Stop> {
     Ok(code)
 }
 
-/// Random runs through a child process, the program after `--`, and through this server.
-fn compare(arguments: &[String]) -> Result<ExitCode, Stop> {
-    use reference::{compare::Comparison, player::Language};
+/// The language, the first seed, the number of calls, and the program after `--` with its arguments.
+fn through_child(arguments: &[String]) -> Result<(Language, u64, u64, Vec<String>), Stop> {
     let parting = arguments.iter().position(|argument| argument == "--").ok_or(Stop::Usage)?;
     let options = Options::read(&arguments[..parting], &["--language", "--seed", "--calls"])?;
     let language = match options.0["--language"].as_str() {
@@ -152,16 +153,34 @@ fn compare(arguments: &[String]) -> Result<ExitCode, Stop> {
         _ => return Err(Stop::Usage),
     };
     let child = arguments[parting + 1..].to_vec();
-    if child.is_empty() {
-        return Err(Stop::Usage);
+    match child.is_empty() {
+        true => Err(Stop::Usage),
+        false => Ok((language, options.number("--seed")?, options.number("--calls")?, child)),
     }
-    let seed = options.number("--seed")?;
-    let (report, code) = match (Comparison { language, child }).run(seed, options.number("--calls")?)? {
-        Ok(agreement) => (agreement.report(seed).into_bytes(), ExitCode::SUCCESS),
-        Err(difference) => (difference.report(), ExitCode::from(1)),
+}
+
+/// Writes what a comparison came to; the exit status is 1 where there was a difference.
+fn write_compared(compared: Result<String, Vec<u8>>) -> Result<ExitCode, Stop> {
+    let (report, code) = match compared {
+        Ok(agreement) => (agreement.into_bytes(), ExitCode::SUCCESS),
+        Err(difference) => (difference, ExitCode::from(1)),
     };
     io::stdout().lock().write_all(&report)?;
     Ok(code)
+}
+
+/// Random runs through a child process and through this server.
+fn compare(arguments: &[String]) -> Result<ExitCode, Stop> {
+    let (language, seed, calls, child) = through_child(arguments)?;
+    let compared = Comparison { language, child }.run(seed, calls)?;
+    write_compared(compared.map(|agreement| agreement.report(seed)).map_err(|difference| difference.report()))
+}
+
+/// Random pairs of runs through a child process, held to each other.
+fn pairs(arguments: &[String]) -> Result<ExitCode, Stop> {
+    let (language, seed, calls, child) = through_child(arguments)?;
+    let compared = Pairs { language, child }.run(seed, calls)?;
+    write_compared(compared.map(|agreement| agreement.report(seed)).map_err(|difference| difference.report()))
 }
 
 fn run(arguments: &[String]) -> Result<ExitCode, Stop> {
@@ -171,6 +190,7 @@ fn run(arguments: &[String]) -> Result<ExitCode, Stop> {
         "script" => write_script(Options::read(rest, &["--seed", "--lines"])?),
         "selftest" => test_itself(Options::read(rest, &["--seed", "--calls"])?),
         "compare" => compare(rest),
+        "pairs" => pairs(rest),
         "kinds" => kinds(Options::read(rest, &["--seed", "--count"])?),
         "matches" => matches(Options::read(rest, &["--seed", "--count"])?),
         "pushes" => pushes(Options::read(rest, &["--seed", "--in", "--out"])?),

@@ -43,6 +43,17 @@ impl Clocks {
         let limit = LEAST_INACTIVITY.max(2 * u64::from(self.timeout));
         silent || (!subscribed && time - self.inactivity_start >= limit)
     }
+
+    /// The first time at which they have run out, if no message comes; the last of all times where there is none.
+    pub fn end(&self, subscribed: bool) -> u64 {
+        let silent = self.keepalive_start.saturating_add(2 * u64::from(self.interval));
+        let idle = self.inactivity_start.saturating_add(LEAST_INACTIVITY.max(2 * u64::from(self.timeout)));
+        if subscribed {
+            silent
+        } else {
+            silent.min(idle)
+        }
+    }
 }
 
 #[derive(Clone, Debug, PartialEq, Eq)]
