@@ -1,0 +1,29 @@
+#!/bin/sh
+# One session cannot disturb another: random pairs of runs through the C library, which differ in other sessions' messages alone.
+# The session that is looked at must get the same in both until it ends. Any difference prints the pair's seed and the fewest lines
+# that show it, and ends with status 1.
+# usage: tests/isolation.sh              the pairs of the gate, with fixed seeds
+#        tests/isolation.sh --calls N S  N calls in the replay program's lines, N / 2 in those of the service, fewer under the
+#                                        sanitizers, seeds from S on
+set -eu
+cd "$(dirname "$0")/.."
+. tests/lib/runs.sh
+usage() { sed -n 's/^# usage: //p;s/^#        //p' "$0" >&2; exit 2; }
+whole() { case $1 in '' | *[!0-9]*) usage ;; esac; }
+
+case $#:${1-} in
+    0:) ;;
+    3:--calls) whole "$2"; whole "$3"; calls=$2 seed=$3 ;;
+    *) usage ;;
+esac
+
+# Programs of its own names: another test may build and run the same source at the same time.
+library
+flags='-std=c11 -O2 -Wall -Wextra -Werror -Iinclude'
+run cc $flags -o target/isolation-service tests/compare/service.c "$library"
+run cc $flags -g -fsanitize=address,undefined -fno-sanitize-recover=all -o target/isolation-service-checked tests/compare/service.c "$library"
+run cargo build --quiet --release -j1 --manifest-path tests/reference/Cargo.toml
+
+run "$reference" pairs --language replay --seed "$seed" --calls "$calls" -- target/isolation-service
+run "$reference" pairs --language service --seed "$seed" --calls "$((calls / 2))" -- target/isolation-service service
+run "$reference" pairs --language service --seed "$seed" --calls "$((calls * 3 / 20))" -- target/isolation-service-checked service
