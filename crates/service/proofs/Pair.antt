@@ -10,36 +10,22 @@ use Rattle.wire.specs.Field.{octets, field}
 use Rattle.wire.specs.Name.{labels, nameLength, isName, lower, sameOctets, sameName, endsIn, within}
 use Rattle.dso.specs.Header.{messageId, flags, isResponse, opcode, noRecords}
 use Rattle.dso.specs.Tlv.{tlvs, tlvsFrom}
-use Rattle.dso.specs.Judge.{
-  badForm,
-  formOf,
-  opening,
-  byType,
-  judgment,
-  isKeepalive,
-  judged,
-  keepalive as judgeKeepalive,
-  subscribe as judgeSubscribe,
-  unsubscribe as judgeUnsubscribe,
-  reconfirm as judgeReconfirm,
-}
+use Rattle.dso.specs.Judge.{formOf, opening, byType, judgment, judged, subscribe as judgeSubscribe}
 use Rattle.dso.specs.Response.{header, tlvOctets, tlvsOctets, framed, response, responseOctets}
 use Rattle.dso.specs.Match.{asksFor, asksType, asksClass}
-use Rattle.zone.specs.Record.{sameKey}
-use Rattle.zone.specs.Store.{find, held, put, remove}
+use Rattle.zone.specs.Store.{find, held, put}
 use Rattle.zone.specs.Layout.{size, recordOctets, readAfter, readRecord}
 use Rattle.zone.specs.Match.{matchesKey}
 use Rattle.zone.specs.Batch.{allowed, overfull, edit, edited, batchOf}
-use Rattle.push.specs.Change.{covers, isTrue, fieldsOf}
-use Rattle.push.specs.List.{widest, alike, chosen, firsts, removals, additions, changes}
-use Rattle.push.specs.Octets.{changesOctets, pushMessage, pushOctets, pushOf, notified, changesIn}
-use Rattle.push.specs.Frames.{frameOf, framesIn, isUnidirectional, pushIn}
-use Rattle.session.specs.Clocks.{started, received, granted, expired}
-use Rattle.session.specs.Subscriptions.{usesId, asksAlready, isFull, without}
+use Rattle.push.specs.Change.{fieldsOf}
+use Rattle.push.specs.List.{firsts, removals, additions, changes}
+use Rattle.push.specs.Octets.{changesOctets, pushMessage, pushOctets, pushOf}
+use Rattle.session.specs.Clocks.{started, received, expired}
+use Rattle.session.specs.Subscriptions.{usesId, asksAlready, isFull}
 use Rattle.service.specs.State.{State, fresh, lowestFree}
 use Rattle.service.specs.Answer.{answerNumber, done, sent}
 use Rattle.service.specs.Checks.{refusalOf, leastOutput}
-use Rattle.service.specs.Message.{asked, subscribed, keptAlive, answered, messageEffect}
+use Rattle.service.specs.Message.{asked, subscribed, answered, messageEffect}
 use Rattle.service.specs.Call.{
   Call,
   opens,
@@ -59,7 +45,7 @@ use Rattle.service.specs.Call.{
   passed,
   outcome,
 }
-use Rattle.service.specs.Reader.{bytesFor, pushesIn}
+use Rattle.service.specs.Reader.{bytesFor}
 use Rattle.service.proofs.Examples.{
   zone,
   host,
@@ -70,9 +56,7 @@ use Rattle.service.proofs.Examples.{
   puts,
   lent,
   batch,
-  outcomes,
   after,
-  ends,
   server,
 }
 use Rattle.service.specs.Isolation.{
@@ -167,7 +151,7 @@ pub record Pair : Type 0 where
   pub silent : gets 0 (life silentBefore silentAfter .after) ≡ expected
 
 pub pair : Pair
-unfolding octets field labels nameLength isName lower sameOctets sameName endsIn within messageId flags isResponse opcode noRecords tlvs tlvsFrom badForm formOf opening byType judgment isKeepalive judged judgeSubscribe judgeKeepalive judgeUnsubscribe judgeReconfirm header tlvOctets tlvsOctets framed response responseOctets asksFor asksType asksClass sameKey find held put remove size recordOctets readAfter readRecord matchesKey allowed overfull edit edited batchOf covers isTrue fieldsOf widest alike chosen firsts removals additions changes changesOctets pushMessage pushOctets pushOf notified changesIn frameOf framesIn isUnidirectional pushIn started received granted expired without usesId asksAlready isFull fresh lowestFree refusalOf asked subscribed keptAlive answered messageEffect start written openOutcome effectOutcome messageOutcome closeOutcome batchOutcome tickOutcome passed outcome bytesFor pushesIn bytes puts outcomes after answerNumber onward gets ran
+unfolding octets field labels nameLength isName lower sameOctets sameName endsIn within messageId flags isResponse opcode noRecords tlvs tlvsFrom formOf opening byType judgment judged judgeSubscribe header tlvOctets tlvsOctets framed response responseOctets asksFor asksType asksClass find held put size recordOctets readAfter readRecord matchesKey allowed overfull edit edited batchOf fieldsOf firsts removals additions changes changesOctets pushMessage pushOctets pushOf started received expired usesId asksAlready isFull fresh lowestFree refusalOf asked subscribed answered messageEffect start written openOutcome effectOutcome messageOutcome closeOutcome batchOutcome tickOutcome passed outcome bytesFor bytes puts after answerNumber onward gets ran
 pair =
     record {
       starts = refl;
