@@ -63,10 +63,11 @@ uint32_t weavemitten_match(const uint8_t *asked_name, size_t asked_name_length, 
  * any content, and write nowhere else; what they answer makes sense on a server that has been started and that nobody else
  * has written since. Calls on one server must not run at the same time.
  *
- * One session cannot disturb another: whatever the others send, more or less of it, a session gets the same answers to its
- * own messages and close, the same bytes in its part of the output and the same end. That holds between two runs in which
- * the host makes the same opens, closes, batches and ticks, with the same times and lengths of output, and in which its
- * open gave it the same number. It says nothing of the time that calls take, and others may hold all four sessions.
+ * One session cannot disturb another: whatever the others send, more or less of it, a session gets until it ends the same
+ * answers to its own messages and close, the same bytes in its part of the output and the same end. That holds between two
+ * runs from starts with the same name, with the same opens, closes, batches, ticks and messages of its own in the same
+ * order, at the same times and with outputs of the same lengths, in which the same open gave it the same number. It says
+ * nothing of the time that calls take, and others may hold all four sessions.
  */
 enum { WEAVEMITTEN_SESSIONS = 4, WEAVEMITTEN_NUMBERS = 28, WEAVEMITTEN_VALUES = 8 };
 

@@ -24,6 +24,17 @@ run cc $flags -o target/isolation-service tests/compare/service.c "$library"
 run cc $flags -g -fsanitize=address,undefined -fno-sanitize-recover=all -o target/isolation-service-checked tests/compare/service.c "$library"
 run cargo build --quiet --release -j1 --manifest-path tests/reference/Cargo.toml
 
-run "$reference" pairs --language replay --seed "$seed" --calls "$calls" -- target/isolation-service
-run "$reference" pairs --language service --seed "$seed" --calls "$((calls / 2))" -- target/isolation-service service
-run "$reference" pairs --language service --seed "$seed" --calls "$((calls * 3 / 20))" -- target/isolation-service-checked service
+# pairs LANGUAGE CALLS PROGRAM..: no difference, and no pair that can't be compared to its end.
+pairs() {
+    language=$1 most=$2
+    shift 2
+    run "$reference" pairs --language "$language" --seed "$seed" --calls "$most" -- "$@" >target/isolation.txt || { cat target/isolation.txt; exit 1; }
+    cat target/isolation.txt
+    if grep -q 'pairs that differ in more\|pairs without one number' target/isolation.txt; then
+        echo "isolation: pairs were left out"
+        exit 1
+    fi
+}
+pairs replay "$calls" target/isolation-service
+pairs service "$((calls / 2))" target/isolation-service service
+pairs service "$((calls * 3 / 20))" target/isolation-service-checked service

@@ -15,7 +15,7 @@ use Rattle.zone.specs.Record.{Record}
 use Rattle.zone.specs.Batch.{batchOf, Edited, stored, faulty}
 use Rattle.zone.proofs.Lists.{decided}
 use Rattle.service.specs.State.{State, Session, Slot, free, live, slotAt, maxSessions, lowestFree}
-use Rattle.service.specs.Answer.{Answer, done, opened, sent, refused, answerNumber}
+use Rattle.service.specs.Answer.{Answer, done, opened, sent, refused, answerNumber, refusalNumber}
 use Rattle.service.specs.Checks.{refusalOf, isFree, isShort, isAbsent, outputSize, leastOutput}
 use Rattle.service.specs.Message.{Effect, abort, nothing, reply, others, places}
 use Rattle.service.specs.Call.{
@@ -130,7 +130,7 @@ module _ (r : Run) (h : Related r) (s : ℕ) (y : Session) (lives : slotAt (r .s
       record { sees = rw (f .hidden a, z, f .harmless a); leaves = getD-set-other (st .slots) n s x free away ∙ lives }
 
   open-gives : (t : ℕ) → Gives s (opens t) (openOutcome st t) (untouched y)
-  unfolding openOutcome
+  unfolding openOutcome answerNumber refusalNumber bytesFor
   open-gives t = go (lowestFree (st .slots)) refl
     where
       away : (n : ℕ) → lowestFree (st .slots) ≡ some n → s ≡ n → ⊥
@@ -142,7 +142,7 @@ module _ (r : Run) (h : Related r) (s : ℕ) (y : Session) (lives : slotAt (r .s
       go none e = rw (e, openOutcome) (refused-gives (opens t) [] AllOpen none refl)
       go (some n) e =
           rw (e, openOutcome)
-          (other-gives (opens t) (record { hidden = λ a. refl; harmless = λ a. refl }) t n _ (opened n) [] (away n e) refl)
+          (record { sees = refl; leaves = getD-set-other (st .slots) n s _ free (away n e) ∙ lives })
 
   other-effect : (c : Call) → Foreign c → (t n : ℕ) (o : List ℕ) (x : Effect) → (s ≡ n → ⊥)
       → Gives s c (effectOutcome st t n o x) (untouched y)
@@ -192,19 +192,19 @@ module _ (r : Run) (h : Related r) (s : ℕ) (y : Session) (lives : slotAt (r .s
 
   -- An effect on its slot, by a call that ends it with answer 4 alone.
   effect-gives : (c : Call) → ((a : Answer) → answerFor s c a ≡ some a) → ((a : Answer) → endsBy s c a ≡ eqb (answerNumber a) 4)
-      → (t : ℕ) (o : List ℕ) → leastOutput ≤ length o → (x : Effect)
+      → (t : ℕ) (o : List ℕ) (x : Effect) → ((z : Session) (w : List ℕ) → x ≡ reply z w → leastOutput ≤ length o)
       → ((i : ℕ) → countFor (effectOutcome st t s o x .answer) i ≤ outputSize) → Gives s c (effectOutcome st t s o x) (effectShare s x)
   unfolding effectOutcome answerNumber
-  effect-gives c known ends t o room abort fits = quiet-gives c t free _ o (known _) refl (ends _)
-  effect-gives c known ends t o room (nothing x) fits = quiet-gives c t (live x) _ o (known _) refl (ends _)
-  effect-gives c known ends t o room (reply x w) fits =
+  effect-gives c known ends t o abort room fits = quiet-gives c t free _ o (known _) refl (ends _)
+  effect-gives c known ends t o (nothing x) room fits = quiet-gives c t (live x) _ o (known _) refl (ends _)
+  effect-gives c known ends t o (reply x w) room fits =
       let small : length w ≤ outputSize = rw (count-own s w four) at (fits s) in
       record {
-        sees = rw (known (sent (counts s (length w))), count-own s w four, bytes-own s four w o small room, ends (sent (counts s (length w))));
+        sees = rw (known (sent (counts s (length w))), count-own s w four, bytes-own s four w o small (room x w refl), ends (sent (counts s (length w))));
         leaves = getD-set-same (st .slots) s (live x) free in-slots;
       }
-  effect-gives c known ends t o room (others x) fits = quiet-gives c t (live x) _ o (known _) refl (ends _)
-  effect-gives c known ends t o room (places x p) fits = quiet-gives c t (live x) _ o (known _) refl (ends _)
+  effect-gives c known ends t o (others x) room fits = quiet-gives c t (live x) _ o (known _) refl (ends _)
+  effect-gives c known ends t o (places x p) room fits = quiet-gives c t (live x) _ o (known _) refl (ends _)
 
   close-gives : (t : ℕ) → Gives s (closes t s) (closeOutcome st t s) (record { answer = some done; bytes = []; slot = free })
   unfolding closeOutcome answerNumber
@@ -254,7 +254,7 @@ module _ (r : Run) (h : Related r) (s : ℕ) (y : Session) (lives : slotAt (r .s
       go (stored new) e = rw (e, batchOutcome) (carried-gives t b o room new)
 
   tick-gives : (t : ℕ) → Gives s (ticks t) (tickOutcome st t) (share (st .zone) (st .store) y s (ticks t))
-  unfolding tickOutcome bytesFor
+  unfolding tickOutcome bytesFor answerNumber
   tick-gives t =
       record {
         sees = rw (List·getD-map (endsAt t) (st .slots) s free, lives, freed (endsAt t (live y)));
@@ -287,7 +287,7 @@ module _ (r : Run) (h : Related r) (s : ℕ) (y : Session) (lives : slotAt (r .s
       → ((n : ℕ) (a : Answer) → answerFor s (c n) a ≡ cond (eqb n s) (some a) none)
       → ((n : ℕ) (a : Answer) → endsBy s (c n) a ≡ (eqb n s && eqb (answerNumber a) 4))
       → st .latest ≤ brought (c s) .time → isAbsent st (brought (c s) .session) ≡ false
-      → (isShort (brought (c s) .output) ≡ false → leastOutput ≤ length o) → (n : ℕ)
+      → (isShort (brought (c s) .output) ≡ false → (z : Session) (w : List ℕ) → f (live y) ≡ reply z w → leastOutput ≤ length o) → (n : ℕ)
       → Gives s (c n) (outcome st (c n)) (ownShare s n y (checkedShare y (lacking (brought (c s))) (effectShare s (f (live y)))))
   effect-call c t o f is known ends early present room =
       numbered-gives c _ (λ n e. record { hidden = λ a. rw (known n a, e); harmless = λ a. rw (ends n a, e) })
@@ -302,7 +302,7 @@ module _ (r : Run) (h : Related r) (s : ℕ) (y : Session) (lives : slotAt (r .s
 
       own : Passed st (brought (c s)) → ((i : ℕ) → countFor (passed st (c s) .answer) i ≤ outputSize)
           → Gives s (c s) (passed st (c s)) (effectShare s (f (live y)))
-      own p = rw (is s, lives) (effect-gives (c s) own-known own-ends t o (room (p .roomy)) (f (live y)))
+      own p = rw (is s, lives) (effect-gives (c s) own-known own-ends t o (f (live y)) (room (p .roomy)))
 
   -- No refusal where nothing can be lacking.
   lacks-nothing : {A : Type 0} (g : Refusal) → none ≡ some g → A
@@ -310,14 +310,14 @@ module _ (r : Run) (h : Related r) (s : ℕ) (y : Session) (lives : slotAt (r .s
 
   pub gives : (c : Call) → st .latest ≤ brought c .time → Gives s c (outcome st c) (share (st .zone) (st .store) y s c)
   unfolding passed closeOutcome messageOutcome
-  gives (opens t) early = foreign-gives (opens t) (record { hidden = λ a. refl; harmless = λ a. refl }) (open-gives t)
+  gives (opens t) early = checked-gives (opens t) early refl (λ g. lacks-nothing g) _ (λ p fits. open-gives t)
   gives (closes t n) early =
       numbered-gives (closes t) _ (λ n e. record { hidden = λ a. rw e; harmless = λ a. rw e })
       (λ n f away. other-gives (closes t n) f t n free done [] away refl)
       (checked-gives (closes t s) early own-present (λ g. lacks-nothing g) _ (λ p fits. close-gives t)) n
   gives (receives t n m o) early =
       effect-call (λ (n : ℕ). receives t n m o) t o (effectAt st t (m .list)) (λ n. refl) (λ n a. refl) (λ n a. refl) early own-present
-      (ltb-false (length o) leastOutput) n
+      (λ short z w e. ltb-false (length o) leastOutput short) n
   gives (edits t b o) early =
       checked-gives (edits t b o) early refl (λ g p. refused-level t b o g) _
       (λ p fits. batch-gives t b o (ltb-false (length o) leastOutput (p .roomy)) fits)

@@ -98,7 +98,7 @@ abbrev life : List Call → List Call → Life
 life before behind =
     record { before = ran server before; after = ran (after server (before ++ (opens 1000 ∷ []))) behind }
 
--- Session 0 of a session that is gone at 600, then ours from 1,000 on. (What is written for it stands at the front of the
+-- Number 0 is that of a session that is gone at 600, and from 1,000 on of ours. (What is written for it stands at the front of the
 -- output, which is quick to read.) In the loud run the first one is aborted by a message; session 1 subscribes with the ID that
 -- ours uses, and is aborted at 20,000, so that the next open takes its number.
 abbrev from : ℕ → ℕ → List ℕ → Call

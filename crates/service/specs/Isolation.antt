@@ -100,13 +100,14 @@ pub record Seen : Type 0 where
 abbrev pub levelled : Answer → Answer
 levelled a = cond (isDone a) done a
 
--- "the same answers to its own calls", with all values: those under its number. "Left out are open's number and its 13".
+-- "the same answers to its own calls", with all values: those under its number. Of the calls of all, "Left out are open's
+-- number and its 13, and the shared 1 or 2 of a batch"; whom a tick ended is in `endsBy`.
 abbrev pub answerFor : ℕ → Call → Answer → Option Answer
-answerFor s (opens t) a = none
+answerFor s (opens t) a = cond (eqb (answerNumber a) 1 || eqb (answerNumber a) 13) none (some a)
 answerFor s (closes t n) a = cond (eqb n s) (some a) none
 answerFor s (receives t n m output) a = cond (eqb n s) (some a) none
 answerFor s (edits t b output) a = some (levelled a)
-answerFor s (ticks t) a = none
+answerFor s (ticks t) a = cond (eqb (answerNumber a) 1) none (some a)
 
 abbrev pub flagFor : Answer → ℕ → Bool
 flagFor done s = false

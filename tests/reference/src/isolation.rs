@@ -2,7 +2,7 @@
 //! session ends, and is read from the lines and from what a program printed to them; no server is asked.
 
 use crate::pair::{Asked, Runs, Step};
-use crate::pair_tally::{Group, PairTally};
+use crate::pair_tally::{Group, PairTally, Part};
 use crate::printed::Printed;
 
 /// The least answer that is a refusal.
@@ -27,6 +27,16 @@ enum Stage {
     BrokenOff,
 }
 
+impl Stage {
+    fn part(self) -> Part {
+        match self {
+            Stage::Before => Part::Before,
+            Stage::Living(_) => Part::Compared,
+            Stage::Ended | Stage::TwoNumbers | Stage::BrokenOff => Part::Further,
+        }
+    }
+}
+
 struct Watch<'a> {
     printed: [&'a [Vec<Printed>]; 2],
     stage: Stage,
@@ -48,7 +58,7 @@ pub fn compare(steps: &[Step], printed: [&[Vec<Printed>]; 2]) -> Result<PairTall
             over => over,
         };
         let both = printed.map(|run| &run[place][..]);
-        watch.tally.note_call(step, &asked, matches!(stage, Stage::Before | Stage::Living(_)));
+        watch.tally.note_call(step, &asked, stage.part());
         if stage == Stage::Before && !step.chosen {
             watch.tally.note_before(step, &asked, both);
         }
@@ -92,7 +102,7 @@ impl Watch<'_> {
             false => self.tally.note_others(step, asked, both),
         }
         if asked.verb == "batch" {
-            both.iter().for_each(|printed| self.tally.note_batch(session, printed));
+            self.tally.note_batch(session, both);
         }
         let Some(end) = end(session, asked, both[0]) else { return Ok(Stage::Living(session)) };
         self.tally.note_end(end);

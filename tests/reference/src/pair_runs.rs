@@ -14,7 +14,7 @@ use crate::script::BEGINNINGS;
 use crate::server::{Server, Session, OUTPUT};
 use crate::{hex, selftest};
 
-/// A pair, and how often another open had to be chosen because this one gave two numbers.
+/// A pair, and how often another open had to be chosen because this one was refused or gave two numbers.
 pub struct Made {
     pub steps: Vec<Step>,
     pub rechosen: u64,

@@ -24,19 +24,27 @@ const TITLES: [(Group, &str); 9] = [
     (Group::End, "its ends"),
     (Group::Answer, "answers to its calls"),
     (Group::Reply, "replies to it by RCODE"),
-    (Group::Batch, "batches"),
-    (Group::Bytes, "bytes of batches to it"),
+    (Group::Batch, "batches of both runs"),
+    (Group::Bytes, "bytes of batches to it, in each run"),
     (Group::Others, "messages of others"),
     (Group::Otherwise, "answered otherwise in the two runs"),
     (Group::Left, "not compared"),
 ];
+
+/// Where a line stands: up to the session's open, behind it up to its end, or further on.
+#[derive(Clone, Copy, Debug, PartialEq, Eq)]
+pub enum Part {
+    Before,
+    Compared,
+    Further,
+}
 
 /// What is counted of a group, with a number where it has one.
 type Key = (Group, String, Option<u64>);
 
 #[derive(Default)]
 pub struct PairTally {
-    /// Calls up to the session's end, in both runs.
+    /// Calls from behind the session's open to its end, of both runs.
     pub calls: u64,
     counts: BTreeMap<Key, u64>,
     /// The IDs and the questions, in hex, for which the session's SUBSCRIBEs were accepted.
@@ -75,12 +83,13 @@ impl PairTally {
         TITLES.iter().map(one).collect()
     }
 
-    /// A line of one run or of both, in the part that is compared or behind it.
-    pub fn note_call(&mut self, step: &Step, asked: &Asked, compared: bool) {
+    /// A line of one run or of both.
+    pub fn note_call(&mut self, step: &Step, asked: &Asked, part: Part) {
         let calls = if asked.is_call() { step.runs.each().len() as u64 } else { 0 };
-        match compared {
-            true => self.calls += calls,
-            false => self.note_many(Group::Left, "calls behind the end", None, calls),
+        match part {
+            Part::Before => self.note_many(Group::Left, "calls up to its open", None, calls),
+            Part::Compared => self.calls += calls,
+            Part::Further => self.note_many(Group::Left, "calls further on", None, calls),
         }
         self.after_extra = step.runs != Runs::Both;
     }
@@ -110,8 +119,17 @@ impl PairTally {
         }
     }
 
-    /// What a batch told in one run: the session, or others, or both.
-    pub fn note_batch(&mut self, session: u64, printed: &[Printed]) {
+    /// What a batch told in each run. The session was told the same in both.
+    pub fn note_batch(&mut self, session: u64, both: [&[Printed]; 2]) {
+        both.iter().for_each(|printed| self.note_told(session, printed));
+        if let Some(line) = both[0].iter().find(|line| line.session == Some(session)) {
+            self.note(Group::Bytes, "PUSHes", None);
+            self.note_many(Group::Bytes, "bytes", None, line.value.len() as u64 / 2);
+        }
+    }
+
+    /// What it told in one run: the session, or others, or both.
+    fn note_told(&mut self, session: u64, printed: &[Printed]) {
         let own = printed.iter().find(|line| line.session == Some(session));
         let others = printed.iter().any(|line| line.session.is_some_and(|other| other != session));
         match (own.is_some(), others, printed.first()) {
@@ -120,10 +138,6 @@ impl PairTally {
             (false, true, _) => self.note(Group::Batch, "told others alone", None),
             (.., Some(line)) if line.answer >= LEAST_REFUSAL => self.note(Group::Batch, "refused", Some(line.answer)),
             _ => self.note(Group::Batch, "told nobody", None),
-        }
-        if let Some(line) = own {
-            self.note(Group::Bytes, "PUSHes", None);
-            self.note_many(Group::Bytes, "bytes", None, line.value.len() as u64 / 2);
         }
     }
 
@@ -168,10 +182,10 @@ impl PairTally {
         }
         let Some((id, question)) = subscribe(&step.line) else { return };
         if self.held.contains(&id) {
-            self.note(Group::Others, "subscribing with an ID of its", None);
+            self.note(Group::Others, "subscribing with one of its IDs", None);
         }
         if self.held.contains(&question) {
-            self.note(Group::Others, "subscribing to a question of its", None);
+            self.note(Group::Others, "subscribing to one of its questions", None);
         }
     }
 }
@@ -184,7 +198,7 @@ fn written(((_, what, number), count): (&Key, &u64)) -> String {
     }
 }
 
-/// The RCODE of printed bytes: the low half of the sixth, behind the length prefix.
+/// The RCODE of printed bytes: the low half of the sixth byte, the length prefix counted.
 fn rcode(printed: &Printed) -> Option<u64> {
     let digit = printed.value.get(11..12).filter(|_| printed.answer == 2)?;
     u64::from_str_radix(digit, 16).ok()

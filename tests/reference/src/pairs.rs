@@ -75,7 +75,7 @@ impl Pairs {
     fn one(&self, seed: u64) -> io::Result<(Vec<Step>, Result<PairTally, Fault>)> {
         let made = pair_runs::random(self.language, seed);
         let found = self.judge(&made.steps)?.map(|mut tally| {
-            tally.note_many(Group::Left, "opens that give two numbers", None, made.rechosen);
+            tally.note_many(Group::Left, "opens passed over", None, made.rechosen);
             tally
         });
         Ok((made.steps, found))

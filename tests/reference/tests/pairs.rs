@@ -118,8 +118,9 @@ fn nothing_before_the_open_or_behind_the_end_is_compared() {
     let tally = compared(marked, [first, second]).expect("no difference");
     assert_eq!(tally.count(Group::End, "abort", None), 1);
     assert_eq!(tally.count(Group::Others, "in one run to its number before its open", None), 1);
-    assert_eq!(tally.count(Group::Left, "calls behind the end", None), 6);
-    assert_eq!(tally.calls, 15);
+    assert_eq!(tally.count(Group::Left, "calls further on", None), 6);
+    assert_eq!(tally.count(Group::Left, "calls up to its open", None), 11);
+    assert_eq!(tally.calls, 4);
     let found = compared(marked, [first, &second.replace("07", "06")]).err().expect("a difference in its life");
     assert_eq!(found.step, 6);
 }
@@ -247,14 +248,14 @@ const WANTED: [(Group, &str, &[u64]); 29] = [
     (Group::Others, "in one run to its number before its open", &[]),
     (Group::Others, "with an abort", &[]),
     (Group::Others, "one subscription too many", &[]),
-    (Group::Others, "subscribing with an ID of its", &[]),
-    (Group::Others, "subscribing to a question of its", &[]),
+    (Group::Others, "subscribing with one of its IDs", &[]),
+    (Group::Others, "subscribing to one of its questions", &[]),
     (Group::Others, "right before the tick that ends it", &[]),
     (Group::Otherwise, "open under other numbers", &[]),
     (Group::Otherwise, "open 1 and 13", &[]),
     (Group::Otherwise, "close 1 and 10", &[]),
     (Group::Otherwise, "batch 1 and 2", &[]),
-    (Group::Left, "calls behind the end", &[]),
+    (Group::Left, "calls further on", &[]),
 ];
 
 #[test]
