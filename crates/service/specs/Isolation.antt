@@ -55,8 +55,8 @@ onward t (x ∷ xs) = leb t (brought (x .call) .time) && onward (brought (x .cal
 
 -- ---- two runs that differ only in other sessions' messages
 
--- Whether a number is that of the session that we look from. None is, before it is opened (READINGS: messages to its number
--- before its open are another session's).
+-- Whether a number is that of the session that we look from. None is, before it is opened: messages to its number are
+-- another session's then.
 abbrev pub isOwn : Option ℕ → ℕ → Bool
 isOwn none n = false
 isOwn (some s) n = eqb n s
