@@ -57,8 +57,8 @@ use Rattle.service.proofs.Level.{Coming, early, event-is, goes-on, Leve
 same-others : (own : Option ℕ) {c d : Call} → Same c d → isOthers own c ≡ isOthers own d
 same-others own (open-too t) = refl
 same-others own (close-too t n) = refl
-same-others own (message-too t n m o o′ e) = refl
-same-others own (batch-too t b o o′ e) = refl
+same-others own (message-too t n m m′ o o′ e k) = refl
+same-others own (batch-too t b b′ o o′ e k) = refl
 same-others own (tick-too t) = refl
 
 module _ (s : ℕ) where

@@ -171,20 +171,16 @@ level-both r r′ h h′ l {c} {d} e p p′ =
     quiet : (c d : Call) → isBatch c ≡ false → isBatch d ≡ false → stepped r c .state .store ≡ stepped r′ d .state .store
     quiet c d p p′ = store-stays r h c p ∙ l .stores ∙ sym (store-stays r′ h′ d p′)
 
-    batch : (t : ℕ) (b : Bytes) (o o′ : List ℕ) → length o ≡ length o′ → r .state .latest ≤ t → r′ .state .latest ≤ t
-        → outcome (r .state) (edits t b o) .next .store ≡ outcome (r′ .state) (edits t b o′) .next .store
-    batch t b o o′ e q q′ =
-        batch-store (r .state) t b o q
-        ∙ ap (λ (k : ℕ). storeAfter (r .state .store) (lacking (record { output = some k; time = t; session = none; message = none })) (batchOf (r .state .zone) (b .list) (r .state .store))) e
-        ∙ ap₂ (λ (z : List ℕ) (l : List Record). storeAfter l (lacking (brought (edits t b o′))) (batchOf z (b .list) l)) (l .zones) (l .stores)
-        ∙ sym (batch-store (r′ .state) t b o′ q′)
+    batch : (t : ℕ) (b b′ : Bytes) (o o′ : List ℕ) → b .list ≡ b′ .list → length o ≡ length o′ → r .state .latest ≤ t
+        → r′ .state .latest ≤ t → outcome (r .state) (edits t b o) .next .store ≡ outcome (r′ .state) (edits t b′ o′) .next .store
+    batch t b b′ o o′ e k q q′ = rw (batch-store (r .state) t b o q, batch-store (r′ .state) t b′ o′ q′, e, k, l .zones, l .stores)
 
     stores : {c d : Call} → Same c d → r .state .latest ≤ brought c .time → r′ .state .latest ≤ brought d .time
         → stepped r c .state .store ≡ stepped r′ d .state .store
     stores (open-too t) p p′ = quiet (opens t) (opens t) refl refl
     stores (close-too t n) p p′ = quiet (closes t n) (closes t n) refl refl
-    stores (message-too t n m o o′ e) p p′ = quiet (receives t n m o) (receives t n m o′) refl refl
-    stores (batch-too t b o o′ e) p p′ = batch t b o o′ e p p′
+    stores (message-too t n m m′ o o′ e k) p p′ = quiet (receives t n m o) (receives t n m′ o′) refl refl
+    stores (batch-too t b b′ o o′ e k) p p′ = batch t b b′ o o′ e k p p′
     stores (tick-too t) p p′ = quiet (ticks t) (ticks t) refl refl
 
 others-no-batch : (own : Option ℕ) (c : Call) → isOthers own c ≡ true → isBatch c ≡ false

@@ -159,7 +159,7 @@ pair =
       silent-run = ran-traced server (silentBefore ++ (opens 1000 ∷ silentAfter));
       twins = record {
         earlier = both (open-too 500) (first refl (both (close-too 600 0) over));
-        later = both (open-too 1000) (first refl (both (message-too 1000 0 _ _ _ refl) (both (batch-too 1000 _ _ _ same-length) (first refl (both (open-too 20000) (both (tick-too 31000) over))))));
+        later = both (open-too 1000) (first refl (both (message-too 1000 0 _ _ _ _ refl refl) (both (batch-too 1000 _ _ _ _ refl same-length) (first refl (both (open-too 20000) (both (tick-too 31000) over))))));
         times = refl;
         times-too = refl;
       };

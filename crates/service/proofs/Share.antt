@@ -77,10 +77,8 @@ pub same-share : (zone : List ℕ) (store : List Record) (y : Session) (s : ℕ)
     → share zone store y s c ≡ share zone store y s d
 same-share zone store y s (open-too t) = refl
 same-share zone store y s (close-too t n) = refl
-same-share zone store y s (message-too t n m o o′ e) =
-    ap (λ (k : ℕ). ownShare s n y (checkedShare y (lacking (record { output = some k; time = t; session = some n; message = some (length (m .list)) })) (effectShare s (messageEffect zone store t (m .list) y)))) e
-same-share zone store y s (batch-too t b o o′ e) =
-    ap (λ (k : ℕ). checkedShare y (lacking (record { output = some k; time = t; session = none; message = none })) (batchShare y store (batchOf zone (b .list) store))) e
+same-share zone store y s (message-too t n m m′ o o′ e k) = rw (e, k)
+same-share zone store y s (batch-too t b b′ o o′ e k) = rw (e, k)
 same-share zone store y s (tick-too t) = refl
 
 -- Another session's message has none.

@@ -69,13 +69,15 @@ isOthers own (receives t n m output) = not (isOwn own n)
 isOthers own (edits t b output) = false
 isOthers own (ticks t) = false
 
--- The same call in both runs, at the same time. Of the output slices that are lent the lengths are the same; they may hold
--- different bytes.
+-- The same call in both runs, at the same time and with the same bytes. Of the output slices that are lent the lengths are
+-- the same; they may hold different bytes.
 pub data Same : Call → Call → Type 0 where
   open-too : (t : ℕ) → Same (opens t) (opens t)
   close-too : (t n : ℕ) → Same (closes t n) (closes t n)
-  message-too : (t n : ℕ) (m : Bytes) (o o′ : List ℕ) → length o ≡ length o′ → Same (receives t n m o) (receives t n m o′)
-  batch-too : (t : ℕ) (b : Bytes) (o o′ : List ℕ) → length o ≡ length o′ → Same (edits t b o) (edits t b o′)
+  message-too : (t n : ℕ) (m m′ : Bytes) (o o′ : List ℕ) → m .list ≡ m′ .list → length o ≡ length o′
+      → Same (receives t n m o) (receives t n m′ o′)
+  batch-too : (t : ℕ) (b b′ : Bytes) (o o′ : List ℕ) → b .list ≡ b′ .list → length o ≡ length o′
+      → Same (edits t b o) (edits t b′ o′)
   tick-too : (t : ℕ) → Same (ticks t) (ticks t)
 
 -- "the same opens, closes, batches, .. ticks, .. times, slice lengths .. in the same order, differing only in other sessions'
