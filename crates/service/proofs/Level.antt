@@ -29,7 +29,7 @@ use Rattle.service.specs.Call.{
   batchOutcome,
 }
 use Rattle.service.specs.declared.refusal.Refusal.{Refusal}
-use Rattle.service.specs.Observer.{noted, observe}
+use Rattle.service.specs.Observer.{storedOr, noted, observe}
 use Rattle.service.specs.Demand.{Run, stepped, isBatch}
 use Rattle.service.specs.Isolation.{
   Event,
@@ -52,28 +52,6 @@ use Rattle.service.proofs.Theorem.{step-kept}
 use Rattle.service.proofs.Share.{lacking, refusal-lacking}
 
 -- ---- one run, and what it goes on with
-
--- The latest time is never past that of the last call.
-past-five : (k : ℕ) → isListed (6 + k) ≡ true → 4 ≤ k
-past-five zero e = clash false e refl
-past-five (suc zero) e = clash false e refl
-past-five (suc (suc zero)) e = clash false e refl
-past-five (suc (suc (suc zero))) e = clash false e refl
-past-five (suc (suc (suc (suc k)))) e = omega arith
-
-latest-after : (st : State) (c : Call) → st .latest ≤ brought c .time → outcome st c .next .latest ≤ brought c .time
-latest-after st c h = ⊎-elim accepts refuses (decided (leb (answerNumber (outcome st c .answer)) 5))
-  where
-    accepts : leb (answerNumber (outcome st c .answer)) 5 ≡ true → outcome st c .next .latest ≤ brought c .time
-    accepts e = omega (arith, numbered st c .timed (leb-true (answerNumber (outcome st c .answer)) 5 e))
-
-    refuses : leb (answerNumber (outcome st c .answer)) 5 ≡ false → outcome st c .next .latest ≤ brought c .time
-    refuses e =
-        let n = answerNumber (outcome st c .answer) in
-        let above : 5 < n = leb-false n 5 e in
-        let same : 6 + (n - 6) ≡ n = omega arith in
-        let k : 4 ≤ n - 6 = past-five (n - 6) (ap isListed same ∙ numbered st c .listed) in
-        rw (numbered st c .unchanged (omega arith) .0) h
 
 -- What a run in which state and observer are related goes on with.
 pub record Coming (r : Run) (xs : List Event) : Type 0 where
@@ -106,7 +84,7 @@ module _ (r : Run) (x : Event) (xs : List Event) (h : Coming r (x ∷ xs)) where
         related = step-kept r (h .related) (x .call);
         trace = next-event (r .state) x xs (h .trace) .1;
         since = brought (x .call) .time;
-        timely = latest-after (r .state) (x .call) early;
+        timely = numbered (r .state) (x .call) .behind early;
         times = and-right (leb (h .since) (brought (x .call) .time)) _ (h .times);
       }
 
@@ -143,16 +121,14 @@ module _ (r : Run) (h : Related r) where
 -- A batch's store: by the checks and its edits.
 abbrev storeAfter : List Record → Option Refusal → Edited → List Record
 storeAfter store (some g) e = store
-storeAfter store none (faulty f) = store
-storeAfter store none (stored new) = new
+storeAfter store none e = storedOr store e
 
 batch-store : (st : State) (t : ℕ) (b : Bytes) (o : List ℕ) → st .latest ≤ t
     → outcome st (edits t b o) .next .store ≡ storeAfter (st .store) (lacking (brought (edits t b o))) (batchOf (st .zone) (b .list) (st .store))
 unfolding outcome passed batchOutcome
 batch-store st t b o p = go (lacking (brought (edits t b o))) (refusal-lacking st (brought (edits t b o)) p refl)
   where
-    carried : (e : Edited) → batchOf (st .zone) (b .list) (st .store) ≡ e
-        → batchOutcome st t (b .list) o .next .store ≡ storeAfter (st .store) none e
+    carried : (e : Edited) → batchOf (st .zone) (b .list) (st .store) ≡ e → batchOutcome st t (b .list) o .next .store ≡ storedOr (st .store) e
     carried (faulty f) e = rw (e, batchOutcome)
     carried (stored new) e = rw (e, batchOutcome)
 

@@ -66,6 +66,8 @@ pub record Numbered (st : State) (c : Call) (x : Outcome) : Type 0 where
   pub unchanged : 10 ≤ answerNumber (x .answer) → (x .next ≡ st) × (x .output ≡ lent c)
   -- "Answers 1 to 5 take the given time as latest."
   pub timed : answerNumber (x .answer) ≤ 5 → x .next .latest ≡ brought c .time
+  -- So the latest time stays behind the last call's.
+  pub behind : st .latest ≤ brought c .time → x .next .latest ≤ brought c .time
 
 refused-numbered : (st : State) (c : Call) (r : Refusal) → isListed (refusalNumber r) ≡ true → Numbered st c (refuse st (lent c) r)
 unfolding answerNumber
@@ -74,6 +76,7 @@ refused-numbered st c r e =
       listed = e;
       unchanged = λ h. (refl, refl);
       timed = λ (h : refusalNumber r ≤ 5). absurd (omega (arith, refusal-above r));
+      behind = λ h. h;
     }
 
 fault-listed : (f : BatchFault) → isListed (refusalNumber (Batch f)) ≡ true
@@ -89,7 +92,7 @@ Accepted st c x = (isListed (answerNumber (x .answer)) ≡ true) × (answerNumbe
 
 accepted-numbered : (st : State) (c : Call) (x : Outcome) → Accepted st c x → Numbered st c x
 accepted-numbered st c x h =
-    record { listed = h .0; unchanged = λ g. absurd (omega (arith, h .1)); timed = λ g. h .2 }
+    record { listed = h .0; unchanged = λ g. absurd (omega (arith, h .1)); timed = λ g. h .2; behind = λ g. omega (arith, h .2) }
 
 open-numbered : (st : State) (t : ℕ) → Numbered st (opens t) (openOutcome st t)
 unfolding openOutcome answerNumber refusalNumber
