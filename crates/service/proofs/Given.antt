@@ -210,12 +210,12 @@ module _ (r : Run) (h : Related r) (s : ℕ) (y : Session) (lives : slotAt (r .s
   unfolding closeOutcome answerNumber
   close-gives t = quiet-gives (closes t s) t free done [] (rw (eq-eqb s s refl)) refl (rw (eq-eqb s s refl))
 
-  refused-level : (t : ℕ) (b : Bytes) (o : List ℕ) (g : Refusal) → answerFor s (edits t b o) (refused g) ≡ some (refused g)
-  refused-level t b o g = rw (refusal-not g 1 (omega arith), refusal-not g 2 (omega arith))
+  refused-levelled : (t : ℕ) (b : Bytes) (o : List ℕ) (g : Refusal) → answerFor s (edits t b o) (refused g) ≡ some (refused g)
+  refused-levelled t b o g = rw (refusal-not g 1 (omega arith), refusal-not g 2 (omega arith))
 
-  told-level : (ws : List (List ℕ)) → levelled (told ws) ≡ done
+  told-levelled : (ws : List (List ℕ)) → levelled (told ws) ≡ done
   unfolding answerNumber
-  told-level ws = go (allOf (λ (w : List ℕ). eqb (length w) 0) ws)
+  told-levelled ws = go (allOf (λ (w : List ℕ). eqb (length w) 0) ws)
     where
       go : (b : Bool) → levelled (cond b done (sent (map length ws))) ≡ done
       go true = refl
@@ -237,7 +237,7 @@ module _ (r : Run) (h : Related r) (s : ℕ) (y : Session) (lives : slotAt (r .s
       let fit : (i : ℕ) → length (getD ws i []) ≤ outputSize = λ (i : ℕ). omega (arith, count-told ws i, fits i) in
       let all : length ws ≡ maxSessions = length-map (st .slots) (pushTo (st .store) new) ∙ h .slots in
       record {
-        sees = rw (told-level ws, count-told ws s, bytes-told ws o s fit (omega arith), own);
+        sees = rw (told-levelled ws, count-told ws s, bytes-told ws o s fit (omega arith), own);
         leaves = lives;
       }
 
@@ -250,7 +250,7 @@ module _ (r : Run) (h : Related r) (s : ℕ) (y : Session) (lives : slotAt (r .s
       go : (e : Edited) → batchOf (st .zone) (b .list) (st .store) ≡ e
           → ((i : ℕ) → countFor (batchOutcome st t (b .list) o .answer) i ≤ outputSize)
           → Gives s (edits t b o) (batchOutcome st t (b .list) o) (batchShare y (st .store) e)
-      go (faulty f) e = rw (e, batchOutcome) (λ fits. refused-gives (edits t b o) o (Batch f) _ (refused-level t b o (Batch f)))
+      go (faulty f) e = rw (e, batchOutcome) (λ fits. refused-gives (edits t b o) o (Batch f) _ (refused-levelled t b o (Batch f)))
       go (stored new) e = rw (e, batchOutcome) (carried-gives t b o room new)
 
   tick-gives : (t : ℕ) → Gives s (ticks t) (tickOutcome st t) (share (st .zone) (st .store) y s (ticks t))
@@ -268,10 +268,10 @@ module _ (r : Run) (h : Related r) (s : ℕ) (y : Session) (lives : slotAt (r .s
   -- ---- every call
 
   -- Under a number: the session's own, or another's.
-  numbered-gives : (c : ℕ → Call) (x : Share) → ((n : ℕ) → eqb n s ≡ false → Foreign (c n))
+  by-number : (c : ℕ → Call) (x : Share) → ((n : ℕ) → eqb n s ≡ false → Foreign (c n))
       → ((n : ℕ) → Foreign (c n) → (s ≡ n → ⊥) → Gives s (c n) (passed st (c n)) (untouched y))
       → Gives s (c s) (outcome st (c s)) x → (n : ℕ) → Gives s (c n) (outcome st (c n)) (ownShare s n y x)
-  numbered-gives c x foreign other own n = ⊎-elim mine theirs (decided (eqb n s))
+  by-number c x foreign other own n = ⊎-elim mine theirs (decided (eqb n s))
     where
       mine : eqb n s ≡ true → Gives s (c n) (outcome st (c n)) (ownShare s n y x)
       mine e = rw (eqb-true n s e, eq-eqb s s refl) own
@@ -290,7 +290,7 @@ module _ (r : Run) (h : Related r) (s : ℕ) (y : Session) (lives : slotAt (r .s
       → (isShort (brought (c s) .output) ≡ false → (z : Session) (w : List ℕ) → f (live y) ≡ reply z w → leastOutput ≤ length o) → (n : ℕ)
       → Gives s (c n) (outcome st (c n)) (ownShare s n y (checkedShare y (lacking (brought (c s))) (effectShare s (f (live y)))))
   effect-call c t o f is known ends early present room =
-      numbered-gives c _ (λ n e. record { hidden = λ a. rw (known n a, e); harmless = λ a. rw (ends n a, e) })
+      by-number c _ (λ n e. record { hidden = λ a. rw (known n a, e); harmless = λ a. rw (ends n a, e) })
       (λ n g away. rw (is n) (other-effect (c n) g t n o (f (slotAt st n)) away))
       (checked-gives (c s) early present (λ g p. own-known (refused g)) _ own)
     where
@@ -312,13 +312,13 @@ module _ (r : Run) (h : Related r) (s : ℕ) (y : Session) (lives : slotAt (r .s
   unfolding passed closeOutcome messageOutcome
   gives (opens t) early = checked-gives (opens t) early refl (λ g. lacks-nothing g) _ (λ p fits. open-gives t)
   gives (closes t n) early =
-      numbered-gives (closes t) _ (λ n e. record { hidden = λ a. rw e; harmless = λ a. rw e })
+      by-number (closes t) _ (λ n e. record { hidden = λ a. rw e; harmless = λ a. rw e })
       (λ n f away. other-gives (closes t n) f t n free done [] away refl)
       (checked-gives (closes t s) early own-present (λ g. lacks-nothing g) _ (λ p fits. close-gives t)) n
   gives (receives t n m o) early =
       effect-call (λ (n : ℕ). receives t n m o) t o (effectAt st t (m .list)) (λ n. refl) (λ n a. refl) (λ n a. refl) early own-present
       (λ short z w e. ltb-false (length o) leastOutput short) n
   gives (edits t b o) early =
-      checked-gives (edits t b o) early refl (λ g p. refused-level t b o g) _
+      checked-gives (edits t b o) early refl (λ g p. refused-levelled t b o g) _
       (λ p fits. batch-gives t b o (ltb-false (length o) leastOutput (p .roomy)) fits)
   gives (ticks t) early = checked-gives (ticks t) early refl (λ g. lacks-nothing g) _ (λ p fits. tick-gives t)

@@ -50,7 +50,8 @@ use Rattle.service.specs.Isolation.{
 use Rattle.service.proofs.Theorem.{start-fresh, begun-related}
 use Rattle.service.proofs.Share.{Share, seenOf, share, same-share, others-share}
 use Rattle.service.proofs.Given.{Gives, gives, lowest}
-use Rattle.service.proofs.Level.{Coming, early, event-is, goes-on, Level, level-both, level-first, level-second}
+use Rattle.service.proofs.Coming.{Coming, early, event-is, goes-on}
+use Rattle.service.proofs.SameStore.{SameStore, store-both, store-first, store-second}
 
 -- ---- two runs: the session
 
@@ -89,16 +90,16 @@ module _ (s : ℕ) where
 
     -- Another session's message: nothing, and it is as it was.
     module _ (e : isOthers (some s) (x .call) ≡ true) where
-      unseen : gets s (x ∷ xs) ≡ gets s xs
+      passes-by : gets s (x ∷ xs) ≡ gets s xs
       unfolding gets
-      unseen =
+      passes-by =
           ap₂ (λ (b : Bool) (v : Seen). entry b v (gets s xs)) e
           (sees ∙ ap seenOf (others-share (r .state .zone) (r .state .store) y s (x .call) e))
 
       lives-on : slotAt (stepped r (x .call) .state) s ≡ live y
       lives-on = leaves ∙ ap (λ (v : Share). v .slot) (others-share (r .state .zone) (r .state .store) y s (x .call) e)
 
-  gets-alike : {xs ys : List Event} → Alike (some s) xs ys → (r r′ : Run) → Coming r xs → Coming r′ ys → Level r r′ → (y : Session)
+  gets-alike : {xs ys : List Event} → Alike (some s) xs ys → (r r′ : Run) → Coming r xs → Coming r′ ys → SameStore r r′ → (y : Session)
       → slotAt (r .state) s ≡ live y → slotAt (r′ .state) s ≡ live y → gets s xs ≡ gets s ys
   unfolding gets
   gets-alike over r r′ h h′ l y p p′ = refl
@@ -109,15 +110,15 @@ module _ (s : ℕ) where
       ap (λ (w : Seen). entry (isOthers (some s) (x .call)) w (gets s xs)) (sees r x xs h y p)
       ∙ entry-rest (isOthers (some s) (x .call)) v (gets s xs) (gets s ys)
       (λ (y′ : Session) (q : v .slot ≡ live y′). gets-alike k (stepped r (x .call)) (stepped r′ (x′ .call)) (goes-on r x xs h) (goes-on r′ x′ ys h′)
-      (level-both r r′ (h .related) (h′ .related) l e (early r x xs h) (early r′ x′ ys h′)) y′
+      (store-both r r′ (h .related) (h′ .related) l e (early r x xs h) (early r′ x′ ys h′)) y′
       (leaves r x xs h y p ∙ q) (leaves r′ x′ ys h′ y p′ ∙ ap (λ (w : Share). w .slot) same ∙ q))
       ∙ ap₂ (λ (b : Bool) (w : Seen). entry b w (gets s ys)) (same-others (some s) e) (sym (sees r′ x′ ys h′ y p′ ∙ ap seenOf same))
   gets-alike (first {x = x} {xs = xs} e k) r r′ h h′ l y p p′ =
-      unseen r x xs h y p e
-      ∙ gets-alike k (stepped r (x .call)) r′ (goes-on r x xs h) h′ (level-first (some s) r r′ l (h .related) (x .call) e) y (lives-on r x xs h y p e) p′
+      passes-by r x xs h y p e
+      ∙ gets-alike k (stepped r (x .call)) r′ (goes-on r x xs h) h′ (store-first (some s) r r′ l (h .related) (x .call) e) y (lives-on r x xs h y p e) p′
   gets-alike (second {y = x} {ys = xs} e k) r r′ h h′ l y p p′ =
-      gets-alike k r (stepped r′ (x .call)) h (goes-on r′ x xs h′) (level-second (some s) r r′ l (h′ .related) (x .call) e) y p (lives-on r′ x xs h′ y p′ e)
-      ∙ sym (unseen r′ x xs h′ y p′ e)
+      gets-alike k r (stepped r′ (x .call)) h (goes-on r′ x xs h′) (store-second (some s) r r′ l (h′ .related) (x .call) e) y p (lives-on r′ x xs h′ y p′ e)
+      ∙ sym (passes-by r′ x xs h′ y p′ e)
 
 -- ---- before the open, and the open
 
@@ -127,27 +128,27 @@ record Reached (xs ys : List Event) : Type 0 where
   right : Run
   coming : Coming left xs
   coming-too : Coming right ys
-  level : Level left right
+  same : SameStore left right
 
 module _ (rest rest′ : List Event) where
-  reached : {xs ys : List Event} → Alike none xs ys → (r r′ : Run) → Coming r (xs ++ rest) → Coming r′ (ys ++ rest′) → Level r r′
+  reached : {xs ys : List Event} → Alike none xs ys → (r r′ : Run) → Coming r (xs ++ rest) → Coming r′ (ys ++ rest′) → SameStore r r′
       → Reached rest rest′
-  reached over r r′ h h′ l = record { left = r; right = r′; coming = h; coming-too = h′; level = l }
+  reached over r r′ h h′ l = record { left = r; right = r′; coming = h; coming-too = h′; same = l }
   reached (both {x = x} {y = y} {xs = xs} {ys = ys} e k) r r′ h h′ l =
       reached k (stepped r (x .call)) (stepped r′ (y .call)) (goes-on r x (xs ++ rest) h) (goes-on r′ y (ys ++ rest′) h′)
-      (level-both r r′ (h .related) (h′ .related) l e (early r x (xs ++ rest) h) (early r′ y (ys ++ rest′) h′))
+      (store-both r r′ (h .related) (h′ .related) l e (early r x (xs ++ rest) h) (early r′ y (ys ++ rest′) h′))
   reached (first {x = x} {xs = xs} e k) r r′ h h′ l =
-      reached k (stepped r (x .call)) r′ (goes-on r x (xs ++ rest) h) h′ (level-first none r r′ l (h .related) (x .call) e)
+      reached k (stepped r (x .call)) r′ (goes-on r x (xs ++ rest) h) h′ (store-first none r r′ l (h .related) (x .call) e)
   reached (second {y = y} {ys = ys} e k) r r′ h h′ l =
-      reached k r (stepped r′ (y .call)) h (goes-on r′ y (ys ++ rest′) h′) (level-second none r r′ l (h′ .related) (y .call) e)
+      reached k r (stepped r′ (y .call)) h (goes-on r′ y (ys ++ rest′) h′) (store-second none r r′ l (h′ .related) (y .call) e)
 
-abbrev newborn : ℕ → Session
-newborn t = record { subscriptions = []; clocks = started t }
+abbrev newSession : ℕ → Session
+newSession t = record { subscriptions = []; clocks = started t }
 
 -- A session that was opened is at its slot, new.
 module _ (st : State) (s t : ℕ) where
   abbrev Opened : Outcome → Type 0
-  Opened x = opened s ≡ x .answer → slotAt (x .next) s ≡ live (newborn t)
+  Opened x = opened s ≡ x .answer → slotAt (x .next) s ≡ live (newSession t)
 
   opened-new : Opened (openOutcome st t)
   unfolding openOutcome
@@ -167,7 +168,7 @@ module _ (st : State) (s t : ℕ) where
       go (some g) p = rw (p, outcome) (λ e. absurd (let z : _≡_ {A = ℕ} 0 1 = cc in omega arith))
       go none p = rw (p, outcome) opened-new
 
-opened-there : (r : Run) (s t : ℕ) (xs : List Event) → Coming r (openedAs s t ∷ xs) → slotAt (stepped r (opens t) .state) s ≡ live (newborn t)
+opened-there : (r : Run) (s t : ℕ) (xs : List Event) → Coming r (openedAs s t ∷ xs) → slotAt (stepped r (opens t) .state) s ≡ live (newSession t)
 unfolding stepped
 opened-there r s t xs h = opened-slot (r .state) s t (ap (λ (x : Event). x .answer) (event-is r (openedAs s t) xs h))
 
@@ -195,9 +196,9 @@ isolation zone st e s t a b k k′ w =
     (begins zone st e (wholeOf s t b) k′ (w .times-too)) (record { zones = refl; stores = refl }) in
     gets-alike s (w .later) (stepped (m .left) (opens t)) (stepped (m .right) (opens t))
     (goes-on (m .left) (openedAs s t) (a .after) (m .coming)) (goes-on (m .right) (openedAs s t) (b .after) (m .coming-too))
-    (level-both (m .left) (m .right) (m .coming .related) (m .coming-too .related) (m .level) (open-too t)
+    (store-both (m .left) (m .right) (m .coming .related) (m .coming-too .related) (m .same) (open-too t)
     (early (m .left) (openedAs s t) (a .after) (m .coming)) (early (m .right) (openedAs s t) (b .after) (m .coming-too)))
-    (newborn t) (opened-there (m .left) s t (a .after) (m .coming)) (opened-there (m .right) s t (b .after) (m .coming-too))
+    (newSession t) (opened-there (m .left) s t (a .after) (m .coming)) (opened-there (m .right) s t (b .after) (m .coming-too))
 
 -- ---- runs of other things
 

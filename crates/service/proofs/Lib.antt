@@ -1,5 +1,5 @@
 -- Demand 3 over whole lists of calls: what each call keeps, and the theorem. Then the numbers of the answers, and the bench
--- examples.
+-- examples. Then isolation: what a call gives one session, two runs, the theorem, and a pair by computation.
 pub mod Outputs
 pub mod Related
 pub mod Quiet
@@ -14,6 +14,7 @@ pub mod Examples
 pub mod Bench
 pub mod Share
 pub mod Given
-pub mod Level
+pub mod Coming
+pub mod SameStore
 pub mod Isolation
 pub mod Pair

@@ -1,5 +1,5 @@
 -- The whole service as definitions: its state, its answers, the outcome of each call; the observer, and what demand 3 says of
--- the two.
+-- the two; two runs beside each other, and what isolation says of them.
 pub mod State
 pub mod Answer
 pub mod Checks

@@ -1,4 +1,4 @@
--- Demand 3 for the code.
+-- Demand 3 and isolation for the code.
 pub mod Theorem
 pub mod Continued
 pub mod Isolation

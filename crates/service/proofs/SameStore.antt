@@ -1,19 +1,14 @@
--- Two runs that differ in other sessions' messages: their times stay behind, and they have the same zone and the same store.
-use Prim.Native.Nat.{ℕ, zero, suc, _+_, _-_, _≤_, _<_}
-use native.Mathlib.Omega.{arith}
+-- Two runs that differ in other sessions' messages have the same zone and the same store.
+use Prim.Native.Nat.{ℕ, _≤_}
 use mathlib.Core.Bool.{true, false}
-use mathlib.Core.List.{List, _∷_}
+use mathlib.Core.List.{List}
 use mathlib.Core.Option.{Option, none, some}
-use mathlib.Core.Path.{_≡_, refl, sym, ap, ap₂, _∙_}
-use mathlib.Core.Logic.{⊎-elim}
+use mathlib.Core.Path.{_≡_, refl, sym, _∙_}
 use lib.ListN.{length}
-use lib.Dec.{leb}
-use borrow.Author.Tests.{leb-true, leb-false}
 use Rattle.zone.specs.Record.{Record}
 use Rattle.zone.specs.Batch.{batchOf, Edited, stored, faulty}
-use Rattle.zone.proofs.Lists.{decided, clash, and-left, and-right}
+use Rattle.zone.proofs.Lists.{clash}
 use Rattle.service.specs.State.{State}
-use Rattle.service.specs.Answer.{Answer, answerNumber}
 use Rattle.service.specs.Checks.{refusalOf}
 use Rattle.service.specs.Call.{
   Bytes,
@@ -31,66 +26,12 @@ use Rattle.service.specs.Call.{
 use Rattle.service.specs.declared.refusal.Refusal.{Refusal}
 use Rattle.service.specs.Observer.{storedOr, noted, observe}
 use Rattle.service.specs.Demand.{Run, stepped, isBatch}
-use Rattle.service.specs.Isolation.{
-  Event,
-  eventOf,
-  Trace,
-  calls,
-  Step,
-  onward,
-  isOthers,
-  Same,
-  open-too,
-  close-too,
-  message-too,
-  batch-too,
-  tick-too,
-}
-use Rattle.service.proofs.Numbers.{isListed, numbered}
+use Rattle.service.specs.Isolation.{isOthers, Same, open-too, close-too, message-too, batch-too, tick-too}
 use Rattle.service.proofs.Related.{Related}
 use Rattle.service.proofs.Theorem.{step-kept}
 use Rattle.service.proofs.Share.{lacking, refusal-lacking}
 
--- ---- one run, and what it goes on with
-
--- What a run in which state and observer are related goes on with.
-pub record Coming (r : Run) (xs : List Event) : Type 0 where
-  pub related : Related r
-  pub trace : Trace Step (r .state) xs
-  pub since : ℕ
-  pub timely : r .state .latest ≤ since
-  pub times : onward since xs ≡ true
-
-next-event : (st : State) (x : Event) (xs : List Event) → Trace Step st (x ∷ xs)
-    → (x ≡ eventOf (x .call) (outcome st (x .call))) × Trace Step (outcome st (x .call) .next) xs
-next-event st x xs (calls p k) = (
-  ap₂ (λ (a : Answer) (o : List ℕ). record { call = x .call; answer = a; output = o }) (p .answer) (p .output),
-  rw (p .next) at k,
-)
-
-module _ (r : Run) (x : Event) (xs : List Event) (h : Coming r (x ∷ xs)) where
-  pub early : r .state .latest ≤ brought (x .call) .time
-  unfolding onward
-  early =
-      omega (arith, h .timely, leb-true (h .since) (brought (x .call) .time) (and-left (leb (h .since) (brought (x .call) .time)) _ (h .times)))
-
-  pub event-is : x ≡ eventOf (x .call) (outcome (r .state) (x .call))
-  event-is = next-event (r .state) x xs (h .trace) .0
-
-  pub goes-on : Coming (stepped r (x .call)) xs
-  unfolding stepped onward
-  goes-on =
-      record {
-        related = step-kept r (h .related) (x .call);
-        trace = next-event (r .state) x xs (h .trace) .1;
-        since = brought (x .call) .time;
-        timely = numbered (r .state) (x .call) .behind early;
-        times = and-right (leb (h .since) (brought (x .call) .time)) _ (h .times);
-      }
-
--- ---- two runs: the zone and the store
-
-pub record Level (r r′ : Run) : Type 0 where
+pub record SameStore (r r′ : Run) : Type 0 where
   pub zones : r .state .zone ≡ r′ .state .zone
   pub stores : r .state .store ≡ r′ .state .store
 
@@ -138,10 +79,10 @@ batch-store st t b o p = go (lacking (brought (edits t b o))) (refusal-lacking s
     go none p = rw (p, outcome) (carried (batchOf (st .zone) (b .list) (st .store)) refl)
 
 -- The same call in both runs.
-pub level-both : (r r′ : Run) → Related r → Related r′ → Level r r′ → {c d : Call} → Same c d → r .state .latest ≤ brought c .time
-    → r′ .state .latest ≤ brought d .time → Level (stepped r c) (stepped r′ d)
+pub store-both : (r r′ : Run) → Related r → Related r′ → SameStore r r′ → {c d : Call} → Same c d → r .state .latest ≤ brought c .time
+    → r′ .state .latest ≤ brought d .time → SameStore (stepped r c) (stepped r′ d)
 unfolding stepped
-level-both r r′ h h′ l {c} {d} e p p′ =
+store-both r r′ h h′ l {c} {d} e p p′ =
     record { zones = zone-stays r h c ∙ l .zones ∙ sym (zone-stays r′ h′ d); stores = stores e p p′ }
   where
     quiet : (c d : Call) → isBatch c ≡ false → isBatch d ≡ false → stepped r c .state .store ≡ stepped r′ d .state .store
@@ -167,11 +108,11 @@ others-no-batch own (edits t b o) e = sym e
 others-no-batch own (ticks t) e = refl
 
 -- Another session's message in one of them.
-module _ (own : Option ℕ) (r r′ : Run) (l : Level r r′) where
-  pub level-first : Related r → (c : Call) → isOthers own c ≡ true → Level (stepped r c) r′
-  level-first h c e =
+module _ (own : Option ℕ) (r r′ : Run) (l : SameStore r r′) where
+  pub store-first : Related r → (c : Call) → isOthers own c ≡ true → SameStore (stepped r c) r′
+  store-first h c e =
       record { zones = zone-stays r h c ∙ l .zones; stores = store-stays r h c (others-no-batch own c e) ∙ l .stores }
 
-  pub level-second : Related r′ → (d : Call) → isOthers own d ≡ true → Level r (stepped r′ d)
-  level-second h d e =
+  pub store-second : Related r′ → (d : Call) → isOthers own d ≡ true → SameStore r (stepped r′ d)
+  store-second h d e =
       record { zones = l .zones ∙ sym (zone-stays r′ h d); stores = l .stores ∙ sym (store-stays r′ h d (others-no-batch own d e)) }
