@@ -19,11 +19,7 @@ case $#:${1-} in
 esac
 
 run rt check replay
-library
-flags='-std=c11 -O2 -Wall -Wextra -Werror -Iinclude'
-run cc $flags -o target/compare-service tests/compare/service.c "$library"
-run cc $flags -g -fsanitize=address,undefined -fno-sanitize-recover=all -o target/compare-service-checked tests/compare/service.c "$library"
-run cargo build --quiet --release -j1 --manifest-path tests/reference/Cargo.toml
+programs compare-service
 
 # all SEED CALLS: the same runs through both programs, and runs that only the C library can be asked for, under the sanitizers.
 all() {

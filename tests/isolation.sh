@@ -17,12 +17,7 @@ case $#:${1-} in
     *) usage ;;
 esac
 
-# Programs of its own names: another test may build and run the same source at the same time.
-library
-flags='-std=c11 -O2 -Wall -Wextra -Werror -Iinclude'
-run cc $flags -o target/isolation-service tests/compare/service.c "$library"
-run cc $flags -g -fsanitize=address,undefined -fno-sanitize-recover=all -o target/isolation-service-checked tests/compare/service.c "$library"
-run cargo build --quiet --release -j1 --manifest-path tests/reference/Cargo.toml
+programs isolation-service
 
 # pairs LANGUAGE CALLS PROGRAM..: no difference, and no pair that can't be compared to its end.
 pairs() {
