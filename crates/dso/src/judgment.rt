@@ -1,18 +1,18 @@
 // What a message's octets alone say.
 
 // A message ID (RFC 8490, 5.4.1), a type of its own so that no session number can be passed for it.
-#[derive(Drop)]
+#[derive(Clone, Copy)]
 pub struct MessageId(pub u16);
 
 // Where a part stands in a message: its first octet, and how many octets it has.
-#[derive(Drop)]
+#[derive(Clone, Copy)]
 pub struct Place {
     pub start: usize,
     pub len: usize,
 }
 
 // The places of what a SUBSCRIBE asks for.
-#[derive(Drop)]
+#[derive(Clone, Copy)]
 pub struct QuestionPlaces {
     pub name: Place,
     pub rtype: Place,
@@ -20,7 +20,7 @@ pub struct QuestionPlaces {
 }
 
 // The places of the record that a RECONFIRM disputes.
-#[derive(Drop)]
+#[derive(Clone, Copy)]
 pub struct RecordPlaces {
     pub name: Place,
     pub rtype: Place,
@@ -29,7 +29,7 @@ pub struct RecordPlaces {
 }
 
 // The RCODE of a reply with an error. The octets alone lead to the first and the last; the other two are the server's.
-#[derive(Drop)]
+#[derive(Clone, Copy)]
 pub enum ReplyCode {
     FormErr,
     ServFail,
@@ -37,7 +37,7 @@ pub enum ReplyCode {
     DsoTypeNi,
 }
 
-#[derive(Drop)]
+#[derive(Clone, Copy)]
 pub enum Judgment {
     // The opcode is not 6: another part of the host handles the message.
     NotOurs,
@@ -54,7 +54,7 @@ pub enum Judgment {
 
 // A judgment, and whether the message's first TLV is a Keepalive and was looked at (step 4 of 01 reached, a malformed
 // one too): such a message restarts the keepalive clock alone.
-#[derive(Drop)]
+#[derive(Clone, Copy)]
 pub struct Judged {
     pub judgment: Judgment,
     pub keepalive: bool,

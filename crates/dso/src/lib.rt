@@ -1,4 +1,6 @@
 // DNS Stateful Operations (RFC 8490): the judgment of a message from its octets alone, and the responses.
+#![tactic(auto)]
+
 mod data;
 mod header;
 mod judging;

@@ -12,7 +12,7 @@ use crate::tlv::tlvs_fill;
 use wire::field16;
 
 // The judgment is settled, or the first TLV decides.
-#[derive(Drop)]
+#[derive(Clone, Copy)]
 pub enum Start {
     Settled(Judgment),
     Primary(TlvPlace),

@@ -7,14 +7,14 @@ ghost use Rattle.dso.specs.Tlv.{tlv_at};
 use crate::judgment::Place;
 use wire::{NameReading, field16, name_at};
 
-#[derive(Drop)]
+#[derive(Clone, Copy)]
 pub struct Reader<'a> {
     message: &'a [u8],
     at: usize,
 }
 
 // A whole TLV in a message: its type, where its data stands (`value`), and where the next one begins.
-#[derive(Drop)]
+#[derive(Clone, Copy)]
 pub struct TlvPlace {
     pub kind: u16,
     pub value: Place,
@@ -22,7 +22,7 @@ pub struct TlvPlace {
 }
 
 // What stands at a place of a message: a whole TLV, nothing more, or a TLV that the message's end cuts short.
-#[derive(Drop)]
+#[derive(Clone, Copy)]
 pub enum TlvStep {
     Whole(TlvPlace),
     End,

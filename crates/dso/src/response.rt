@@ -10,13 +10,13 @@ use crate::number::{KEEPALIVE, RETRY_DELAY};
 use wire::{write_octets, write32};
 
 // The session timeouts of a Keepalive TLV, in milliseconds (RFC 8490, 7.1).
-#[derive(Drop)]
+#[derive(Clone, Copy)]
 pub struct Timeouts {
     pub inactivity: u32,
     pub keepalive: u32,
 }
 
-#[derive(Drop)]
+#[derive(Clone, Copy)]
 pub enum Response {
     Error(ReplyCode),
     Keepalive(Timeouts),

@@ -1,5 +1,7 @@
 // Prints each response that dso writes, in hex with its length prefix: bench example 11 of 01 is the flags of NOTAUTH, 12 the
 // data of the Keepalive response.
+#![tactic(auto)]
+
 use dso::{MessageId, ReplyCode, Response};
 use libc::STDOUT_FILENO;
 

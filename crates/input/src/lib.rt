@@ -1,4 +1,6 @@
 // Lines of standard input, read in large chunks. What a descriptor gives, no contract can say; what is cut from it is promised.
+#![tactic(auto)]
+
 mod progress;
 
 ghost use Rattle.std.specs.Prelude.{take};

@@ -8,7 +8,7 @@ use table::part;
 // The chunk that was read last.
 pub type Input = [u8; 65536];
 
-#[derive(Drop)]
+#[derive(Clone, Copy)]
 pub struct Progress {
     // The chunk stands at the front of lent memory, so many octets of it.
     pub end: usize,

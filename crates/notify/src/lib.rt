@@ -1,4 +1,6 @@
 // Change notifications in octets: the PUSH for a session from an old and a new store, and the first PUSH of a subscription.
+#![tactic(auto)]
+
 mod choice;
 mod marks;
 mod message;

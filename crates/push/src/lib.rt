@@ -1,1 +1,3 @@
 // Change notifications: which list a session is sent, and its octets.
+#![tactic(auto)]
+

@@ -7,7 +7,7 @@ use wire::same_octets;
 const LINE: usize = 32768;
 
 // Of a name or of edits, so many octets stand at the front of the memory that was lent.
-#[derive(Drop)]
+#[derive(Clone, Copy)]
 pub enum Command {
     Fresh,
     Subscribe(u16, u16, u16, usize),
@@ -32,7 +32,7 @@ fn behind(s: &[u8]) -> &[u8] {
 }
 
 // A number of 16 bits, or none.
-#[derive(Drop)]
+#[derive(Clone, Copy)]
 enum Short {
     Value(u16),
     NoValue,

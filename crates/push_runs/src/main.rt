@@ -5,6 +5,8 @@
 //   unsubscribe ID                   unsubscribe -
 //   batch EDITSHEX                   batch, the answer's number, and the PUSH, or -
 // Fields are parted by tabs. A line that is none of these is answered by ?.
+#![tactic(auto)]
+
 mod answer;
 mod command;
 mod run;

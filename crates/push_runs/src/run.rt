@@ -9,7 +9,7 @@ use zone::BatchResult;
 const OUTPUT: usize = 16384;
 
 // How many records there are, whether the second area holds them, and how many subscriptions there are.
-#[derive(Drop)]
+#[derive(Clone, Copy)]
 pub struct State {
     pub records: usize,
     pub second: bool,

@@ -7,7 +7,7 @@ ghost use Rattle.receive.specs.Effect.{handed, replied};
 use dso::{MessageId, RecordPlaces, Response};
 use session::Clocks;
 
-#[derive(Drop)]
+#[derive(Clone, Copy)]
 pub enum Effect {
     // The session is forcibly aborted.
     Abort,
@@ -23,7 +23,7 @@ pub enum Effect {
 
 // The session's clocks, how many subscriptions it has, and the effect. After an abort the session is gone, and the first two
 // say nothing.
-#[derive(Drop)]
+#[derive(Clone, Copy)]
 pub struct Received {
     pub clocks: Clocks,
     pub count: usize,

@@ -1,4 +1,6 @@
 // What a received message does to its session: the judgment of its octets carried out.
+#![tactic(auto)]
+
 mod effect;
 mod keepalive;
 mod subscribing;

@@ -28,7 +28,7 @@ fn field_at(m: &[u8], at: Place) -> u16
 }
 
 // What a session says to a SUBSCRIBE.
-#[derive(Drop)]
+#[derive(Clone, Copy)]
 pub enum Admission {
     Abort,
     Refuse(ReplyCode),

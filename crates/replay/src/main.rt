@@ -1,5 +1,7 @@
 // Replays a script of calls on a server for the zone shop.example: lines on standard input, what came of each on standard
 // output (01, "The replay program").
+#![tactic(auto)]
+
 mod respond;
 
 use input::{Input, Progress, held_line, idle, next_line};

@@ -16,14 +16,14 @@ use table::part;
 use transcript::{Answered, Output, Text, write_response};
 
 // The server's numbers as they are then, and what came of the line.
-#[derive(Drop)]
+#[derive(Clone, Copy)]
 pub struct Performed {
     pub server: Server,
     pub answer: Answered,
 }
 
 // The server's numbers as they are then, and how many octets of lines stand at the front of the text.
-#[derive(Drop)]
+#[derive(Clone, Copy)]
 pub struct Response {
     pub server: Server,
     pub length: usize,

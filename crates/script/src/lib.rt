@@ -1,5 +1,7 @@
 // The lines of the replay program (01, "The replay program"): the input cut into lines, reading one, and writing one. Fields,
 // numbers and octets in hexadecimal digits are there for other programs over lines too.
+#![tactic(auto)]
+
 mod number;
 mod reader;
 mod search;

@@ -5,7 +5,7 @@ ghost use Rattle.script.specs.Number.{number as number_of, value_of};
 ghost use Rattle.script.specs.Code.{number_read};
 
 // What a field of digits stands for, if it is a number of at most 64 bits.
-#[derive(Drop)]
+#[derive(Clone, Copy)]
 pub enum Number {
     Value(u64),
     NoNumber,

@@ -14,7 +14,7 @@ use crate::verb::{Verb, verb_of};
 pub type Bytes = [u8; 16384];
 
 // So many octets stand at the front of the lent memory; or the digits are no whole octets.
-#[derive(Drop)]
+#[derive(Clone, Copy)]
 pub enum Decoded {
     Bytes(usize),
     NoBytes,
@@ -56,7 +56,7 @@ pub fn read_bytes(s: &[u8], bytes: &mut [u8]) -> Decoded
 
 // Times and sessions are the line's own numbers; of a message or a batch, so many octets stand at the front of the memory
 // that was lent.
-#[derive(Drop)]
+#[derive(Clone, Copy)]
 pub enum Command {
     Open(u64),
     Close(u64, u64),

@@ -8,7 +8,7 @@ use crate::writer::put;
 // line may have. What would go beyond is dropped: the line is unreadable without it.
 pub type Line = [u8; 32769];
 
-#[derive(Drop)]
+#[derive(Clone, Copy)]
 pub struct Taken {
     // How many octets of the line are held now.
     pub held: usize,

@@ -5,7 +5,7 @@ ghost use Rattle.script.specs.Verb.{verb_of};
 use wire::same_octets;
 
 // `Unknown` is any other word on a line that is read, and `?` on one that is written.
-#[derive(Drop)]
+#[derive(Clone, Copy)]
 pub enum Verb {
     Open,
     Close,

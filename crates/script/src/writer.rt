@@ -14,7 +14,7 @@ use crate::verb::Verb;
 use wire::write_octets;
 
 // A session's number, or none to name.
-#[derive(Drop)]
+#[derive(Clone, Copy)]
 pub enum SessionField {
     Session(u64),
     NoSession,

@@ -7,7 +7,7 @@ use dso::RecordPlaces;
 use service::{Refusal, SessionNumber};
 
 // For each session, whether it was aborted.
-#[derive(Drop)]
+#[derive(Clone, Copy)]
 pub struct Flags {
     pub f0: bool,
     pub f1: bool,
@@ -16,7 +16,7 @@ pub struct Flags {
 }
 
 // For each session, how many bytes stand at its output's start.
-#[derive(Drop)]
+#[derive(Clone, Copy)]
 pub struct Counts {
     pub c0: usize,
     pub c1: usize,
@@ -24,7 +24,7 @@ pub struct Counts {
     pub c3: usize,
 }
 
-#[derive(Drop)]
+#[derive(Clone, Copy)]
 pub enum Answer {
     // Done, nothing to send.
     Done,
@@ -44,14 +44,14 @@ pub enum Answer {
     Refused(Refusal),
 }
 
-#[derive(Drop)]
+#[derive(Clone, Copy)]
 pub struct Outcome {
     pub server: Server,
     pub answer: Answer,
 }
 
 // What a message gives: the numbers of its session as they are then, and the answer.
-#[derive(Drop)]
+#[derive(Clone, Copy)]
 pub struct Heard {
     pub session: Session,
     pub answer: Answer,

@@ -7,7 +7,7 @@ use crate::state::{Server, at_time, opened, replaced, vacant};
 use crate::ticking::swept;
 use service::{Refusal, SessionNumber};
 
-#[derive(Drop)]
+#[derive(Clone, Copy)]
 pub enum Change {
     // A session is opened at a number.
     Opens(u64),
@@ -17,7 +17,7 @@ pub enum Change {
     Ends(Flags),
 }
 
-#[derive(Drop)]
+#[derive(Clone, Copy)]
 pub enum Decision {
     Takes(Change),
     // Refused: nothing changes.

@@ -13,14 +13,14 @@ use service::Refusal;
 const MAX_MESSAGE: u64 = 65535;
 
 // A number that a call has or has not.
-#[derive(Drop)]
+#[derive(Clone, Copy)]
 pub enum Given {
     Absent,
     Is(u64),
 }
 
 // What a call brings to be checked: the length of its output slice, its time, its session number, the length of its message.
-#[derive(Drop)]
+#[derive(Clone, Copy)]
 pub struct Brought {
     pub output: Given,
     pub time: u64,
@@ -28,7 +28,7 @@ pub struct Brought {
     pub message: Given,
 }
 
-#[derive(Drop)]
+#[derive(Clone, Copy)]
 pub enum Checked {
     Pass,
     Refuse(Refusal),

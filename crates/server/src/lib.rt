@@ -1,5 +1,7 @@
 // The server: its numbers, its answers, the checks that calls share, and the calls that need no octets. Message and batch are
 // crates above this one.
+#![tactic(auto)]
+
 mod answer;
 mod calls;
 mod change;

@@ -7,7 +7,7 @@ ghost use Rattle.server.specs.Checks.{vacant_of};
 
 use crate::state::{SESSIONS, Server, session_at};
 
-#[derive(Drop)]
+#[derive(Clone, Copy)]
 pub enum Vacant {
     At(u64),
     Nowhere,

@@ -11,7 +11,7 @@ pub const MAX_NAME: usize = 255;
 // The lent memory of the zone's name.
 pub type Name = [u8; MAX_NAME];
 
-#[derive(Drop)]
+#[derive(Clone, Copy)]
 pub enum Started {
     Running(Server),
     Refused(Refusal),

@@ -7,14 +7,14 @@ use session::{Clocks, started};
 pub const SESSIONS: u64 = 4;
 
 // One session: whether it is open, its clocks, and how many subscriptions it has.
-#[derive(Drop)]
+#[derive(Clone, Copy)]
 pub struct Session {
     pub live: bool,
     pub clocks: Clocks,
     pub count: usize,
 }
 
-#[derive(Drop)]
+#[derive(Clone, Copy)]
 pub struct Server {
     // The latest accepted time.
     pub latest: u64,
@@ -31,7 +31,7 @@ pub struct Server {
 }
 
 // What a message of one session needs of the numbers.
-#[derive(Drop)]
+#[derive(Clone, Copy)]
 pub struct Context {
     pub latest: u64,
     pub zone: usize,

@@ -2,10 +2,10 @@
 use zone::BatchFault;
 
 // A session's number, 0 to 3, a type of its own so that no message ID can be passed for it.
-#[derive(Drop)]
+#[derive(Clone, Copy)]
 pub struct SessionNumber(pub u64);
 
-#[derive(Drop)]
+#[derive(Clone, Copy)]
 pub enum Refusal {
     // Number above 3, or no open session there.
     NoSession,

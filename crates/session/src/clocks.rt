@@ -11,7 +11,7 @@ const FIRST_KEEPALIVE: u32 = 15000;
 const LEAST_INACTIVITY: u64 = 5000;
 
 // Times and timeouts are in milliseconds.
-#[derive(Drop)]
+#[derive(Clone, Copy)]
 pub struct Clocks {
     // When the inactivity clock was last restarted.
     pub active: u64,

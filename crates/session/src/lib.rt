@@ -1,4 +1,6 @@
 // A session's two clocks and its table of subscriptions.
+#![tactic(auto)]
+
 mod clocks;
 mod subscriptions;
 

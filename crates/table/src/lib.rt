@@ -1,4 +1,6 @@
 // Blocks of one size in lent memory: lending one, a text in one, and closing the gap that a removed one leaves.
+#![tactic(auto)]
+
 ghost use Rattle.std.specs.Prelude.{◌+◌, ◌≤◌, ◌≡◌, length};
 ghost use Rattle.std.proofs.lemmas.List.Edits.{sets};
 ghost use Rattle.wire.specs.Part.{part as part_of};

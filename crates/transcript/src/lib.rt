@@ -1,4 +1,6 @@
 // The lines that the replay program writes for a line of input (01, "The replay program").
+#![tactic(auto)]
+
 mod lines;
 mod note;
 mod own;

@@ -5,7 +5,7 @@ ghost use Rattle.transcript.specs.Lines.{count_note, flag_note, is_quiet, both_q
 
 use server::{Answer, Counts, Flags};
 
-#[derive(Drop)]
+#[derive(Clone, Copy)]
 pub enum Note {
     // Nothing.
     Quiet,
@@ -15,7 +15,7 @@ pub enum Note {
     Ended,
 }
 
-#[derive(Drop)]
+#[derive(Clone, Copy)]
 pub struct Notes {
     pub n0: Note,
     pub n1: Note,

@@ -12,7 +12,7 @@ use table::part;
 pub const SESSION_OUTPUT: usize = 16384;
 
 // The counts of an answer that has them.
-#[derive(Drop)]
+#[derive(Clone, Copy)]
 pub enum Sending {
     Counted(Counts),
     Nothing,

@@ -10,7 +10,7 @@ use script::{Command, SessionField, Verb, write_line};
 use server::Answer;
 
 // What came of a line: its call's answer; or nothing was called, since it is unreadable.
-#[derive(Drop)]
+#[derive(Clone, Copy)]
 pub enum Answered {
     Told(Answer),
     Unread,

@@ -1,4 +1,6 @@
 // Demand 3 stated about the calls' own promises; and calls in code, one after the other, of which it is proved.
+#![tactic(auto)]
+
 ghost use Rattle.server.specs.Memory.{memory_now};
 ghost use Rattle.views.specs.Plays.{Continues, Plays};
 
@@ -8,14 +10,14 @@ use server_message::message;
 use service::{Refusal, SessionNumber};
 
 // What an open, a message and a batch gave.
-#[derive(Drop)]
+#[derive(Clone, Copy)]
 pub struct Ran {
     pub opened: Outcome,
     pub heard: Outcome,
     pub told: Outcome,
 }
 
-#[derive(Drop)]
+#[derive(Clone, Copy)]
 pub enum Played {
     // The zone's name is no name.
     Unnamed(Refusal),

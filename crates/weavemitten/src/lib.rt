@@ -1,5 +1,7 @@
 // The library for the host's C program: the service, and three questions. Each answer is a number of 01 that is never 0.
 // A slice is any bytes: none, with any pointer, or more than a message can have.
+#![tactic(auto)]
+
 mod calls;
 
 ghost use Rattle.std.specs.Prelude.{◌≡◌};

@@ -4,12 +4,11 @@ use mathlib.Core.Path.{◌≡◌, refl, sym, ap, ap₂, ◌∙◌}
 use mathlib.Core.Bool.{Bool, true, false, cond, ◌&&◌, ◌||◌}
 use mathlib.Core.List.{List, [], ◌∷◌, map}
 use mathlib.Core.Option.{Option, none, some}
-use native.Mathlib.Numerals.{add-one}
 use native.Mathlib.Omega.{arith}
 use lib.ListN.{length, take, drop, get_or, length-take, length-map, get_or-map, drop_of_length-le}
 use lib.Seq.{drop-cons, drop-drop, get_or-take}
 use lib.Dec.{eqb}
-use borrow.Author.Tests.{le-leb, lt-leb, eq-eqb, ne_eqb}
+use borrow.Author.Tests.{le-leb, lt-leb, ne_eqb}
 use Rattle.wire.specs.Name.{max_label, max_name, after, labels, name_length, lower, lowered, same_octets, same_name, ends_in, within}
 use Rattle.wire.specs.Case.{caseless}
 use Rattle.wire.specs.Reading.{reading, name_front, name_at}

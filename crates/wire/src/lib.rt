@@ -1,4 +1,6 @@
 // The wire layer: fields of 16 and 32 bits, names, and octets written into lent memory.
+#![tactic(auto)]
+
 mod field;
 mod name;
 mod write;

@@ -5,7 +5,7 @@ ghost use Rattle.wire.specs.Case.{caseless};
 ghost use Rattle.wire.specs.Reading.{name_at, name_front};
 
 // What stands at a place: a name of so many octets, the zero octet at its end counted; or no name.
-#[derive(Drop)]
+#[derive(Clone, Copy)]
 pub enum NameReading {
     Name(usize),
     NoName,

@@ -4,6 +4,8 @@
 //   same HEX HEX             yes or no, or - where one is no whole name
 //   within ZONEHEX NAMEHEX   likewise
 // A line that is none of these is answered by ?, and so is one that is too long to be held whole: a field of it is too long.
+#![tactic(auto)]
+
 mod question;
 
 use input::{Input, Progress, held_line, idle, next_line};

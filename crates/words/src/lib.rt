@@ -1,4 +1,6 @@
 // What a C host lends beside the octets: the server's numbers as words, and the values of an answer.
+#![tactic(auto)]
+
 mod values;
 mod words;
 

@@ -15,7 +15,7 @@ pub const WORDS: usize = 28;
 pub type Words = [u64; WORDS];
 
 // A session's six words.
-#[derive(Drop)]
+#[derive(Clone, Copy)]
 struct SessionWords {
     live: u64,
     active: u64,

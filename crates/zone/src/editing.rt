@@ -133,7 +133,7 @@ fn append(area: &mut Area, n: usize, name: &[u8], rrtype: u16, rrclass: u16, ttl
 }
 
 // How many records there are after an edit; or a put found 40 others.
-#[derive(Drop)]
+#[derive(Clone, Copy)]
 pub enum Applied {
     Count(usize),
     Full,
@@ -185,7 +185,7 @@ fn apply(
 pub const EDITS: usize = 32;
 
 // Where the next edit begins and how many records there are now; or why the batch is refused.
-#[derive(Drop)]
+#[derive(Clone, Copy)]
 pub enum Stepped {
     Next(usize, usize),
     Stop(BatchFault),
@@ -213,7 +213,7 @@ fn step(zone: &[u8], bytes: &[u8], at: usize, n: usize, area: &mut Area) -> Step
     }
 }
 
-#[derive(Drop)]
+#[derive(Clone, Copy)]
 pub enum BatchResult {
     // The new store has so many records.
     Stored(usize),

@@ -1,4 +1,6 @@
 // The zone: resource records, the store in lent memory, and batches of edits.
+#![tactic(auto)]
+
 mod editing;
 mod reading;
 mod records;
@@ -11,7 +13,7 @@ pub use records::{
 };
 
 // Why a batch is refused (01, answers 16, 14, 15 and 17).
-#[derive(Drop)]
+#[derive(Clone, Copy)]
 pub enum BatchFault {
     TooManyEdits,
     Unreadable,

@@ -20,7 +20,7 @@ const ANY: u16 = 255;
 pub(crate) const FIXED: usize = 10;
 
 // An edit in a batch's octets: where it begins, how long its name and its RDATA are, and its numbers.
-#[derive(Drop)]
+#[derive(Clone, Copy)]
 pub struct Edit {
     pub start: usize,
     pub namelen: usize,
@@ -30,7 +30,7 @@ pub struct Edit {
     pub rdlen: usize,
 }
 
-#[derive(Drop)]
+#[derive(Clone, Copy)]
 pub enum EditReading {
     Read(Edit),
     Unreadable,
@@ -93,7 +93,7 @@ pub fn allowed(zone: &[u8], name: &[u8], rrtype: u16, rrclass: u16, ttl: u32, rd
 }
 
 // An edit that was read and whose values are allowed; or why not.
-#[derive(Drop)]
+#[derive(Clone, Copy)]
 pub enum CheckedEdit {
     Good(Edit),
     Fault(crate::BatchFault),

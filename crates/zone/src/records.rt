@@ -123,7 +123,7 @@ pub(crate) fn has_key_at(
 }
 
 // Where a record stands in a store.
-#[derive(Drop)]
+#[derive(Clone, Copy)]
 pub enum Found {
     At(usize),
     Nothing,
