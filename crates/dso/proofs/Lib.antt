@@ -1,6 +1,5 @@
 -- Laws of the DSO layer that several proofs, and the layers above, cite.
 pub mod Bench
-mod Held
 pub mod Judgments
 pub mod Openings
 pub mod Reading

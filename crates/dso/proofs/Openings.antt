@@ -6,13 +6,11 @@ use native.Mathlib.Omega.{arith}
 use mathlib.Core.Path.{◌≡◌, refl, sym, ap, ◌∙◌}
 use mathlib.Core.Bool.{Bool, true, false, cond, not, true≢false, false≢true}
 use mathlib.Core.List.{List, [], ◌∷◌}
-use mathlib.Core.Logic.{inl, inr}
+use mathlib.Core.Logic.{⊥}
 use mathlib.Core.Option.{Option, none, some}
 use lib.ListN.{length, take, drop, length-drop}
 use lib.Seq.{length-take-le}
 use lib.Dec.{ltb, eqb}
-use types.Run.{OneOf}
-use denote.Enum.Declared.{tag_of}
 use Rattle.wire.specs.Field.{field}
 use Rattle.dso.specs.Header.{message_id, no_records, opcode, is_response}
 use Rattle.dso.specs.Tlv.{Tlv, also, tlvs, is_some, filled, tlv_place, tlv_at, placed, stepped}
@@ -26,7 +24,6 @@ use Rattle.dso.specs.declared.reader.TlvStep.{TlvStep}
 use Rattle.dso.specs.declared.reader.TlvStep.TheVariants.{Whole, End, Cut}
 use Rattle.dso.specs.declared.opening.Start.{Start}
 use Rattle.dso.specs.declared.opening.Start.TheVariants.{Settled, Primary}
-use Rattle.dso.specs.contracts.reader.TlvStep as S
 use Rattle.dso.proofs.Tlvs.{here, whole_here, tlvs-at}
 
 -- Step 3 by the first TLV, and the TLVs behind it.
@@ -119,12 +116,11 @@ module _ (m : List ℕ) (s : TlvStep) (w : no_records m ≡ true) (e : s ≡ tlv
   start-unfilled j p t d f = rw (form-by ∙ ap (opens m) d ∙ opens-bad m t f) (ap Settled p)
 
   -- No whole TLV stands behind the header: the end does, or one that is cut short.
-  pub start_none : (j : Judgment) → j ≡ bad_form (message_id m) → OneOf (1 ∷ 2 ∷ []) (tag_of S.the_type s) → Settled j ≡ start_of (form_of m)
+  pub start_none : (j : Judgment) → j ≡ bad_form (message_id m) → ((t : TlvPlace) → s ≡ Whole t → ⊥) → Settled j ≡ start_of (form_of m)
   start_none j p k = rw (form-by ∙ not-whole s k) (ap Settled p)
     where
-      not-whole : (x : TlvStep) → OneOf (1 ∷ 2 ∷ []) (tag_of S.the_type x) → opens m x ≡ settled (bad_form (message_id m))
-      not-whole (Whole t) (inl z) = absurd (omega arith)
-      not-whole (Whole t) (inr z) = absurd (omega arith)
+      not-whole : (x : TlvStep) → ((t : TlvPlace) → x ≡ Whole t → ⊥) → opens m x ≡ settled (bad_form (message_id m))
+      not-whole (Whole t) z = absurd (z t refl)
       not-whole End z = refl
       not-whole Cut z = refl
 
