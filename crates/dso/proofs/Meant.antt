@@ -1,5 +1,5 @@
 -- What a judgment says of the message's octets, read at their places in the message: for the layers above.
-use Prim.Native.Nat.{ℕ, ◌+◌}
+use Prim.Native.Nat.{ℕ}
 use native.Mathlib.Omega.{arith}
 use mathlib.Core.List.{List, ◌++◌, append_assoc}
 use mathlib.Core.Option.{some}

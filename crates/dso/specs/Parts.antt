@@ -1,6 +1,6 @@
 -- What holds of a judgment, and where the parts of a SUBSCRIBE and of a RECONFIRM stand in the message.
-use Rattle.std.specs.Prelude.{ℕ, ◌+◌, ◌≤◌, ◌≡◌, Bool, true, List, length, take, drop}
-use Rattle.std.proofs.Math.Option.{Option, some}
+use Rattle.std.specs.Prelude.{ℕ, ◌+◌, ◌≤◌, ◌≡◌, true, List, length, take, drop}
+use Rattle.std.proofs.Math.Option.{some}
 use Rattle.wire.specs.Field.{field}
 use Rattle.wire.specs.Name.{name_length, is_name}
 use Rattle.dso.specs.Header.{header_length, message_id}

@@ -1,6 +1,6 @@
 -- The responses that the server writes, octet for octet, and what is read back from one.
-use Rattle.std.specs.Prelude.{ℕ, ◌+◌, Bool, true, List, [], ◌∷◌, ◌++◌, ◌≡◌, length, drop}
-use Rattle.std.proofs.Math.Option.{Option, some}
+use Rattle.std.specs.Prelude.{ℕ, ◌+◌, true, List, [], ◌∷◌, ◌++◌, ◌≡◌, length, drop}
+use Rattle.std.proofs.Math.Option.{some}
 use Rattle.wire.specs.Field.{field, octets}
 use Rattle.dso.specs.Header.{header_length, dso_opcode, message_id, is_response, opcode, z_bits, rcode, no_records}
 use Rattle.dso.specs.Tlv.{Tlv, tlvs}

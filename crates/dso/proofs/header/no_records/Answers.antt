@@ -1,8 +1,5 @@
 use Rattle.dso.specs.Header.{no_records}
 use Rattle.dso.proofs.Reading.{is, isnt, same}
-use Rattle.dso.proofs.header.no_records.Reads as reads
-use Rattle.dso.proofs.header.no_records.Lts as lts
-use Rattle.wire.proofs.field16.Reads as field16-reads
 use Rattle.dso.proofs.header.no_records.Goals as goal
 
 -- src/header.rt:23:9

@@ -1,9 +1,6 @@
 use Prim.Native.Nat.{ℕ, ◌/◌, ◌%◌}
 use mathlib.Core.Path.{ap}
 use Rattle.dso.specs.Header.{opcode, flags}
-use Rattle.dso.proofs.header.opcode_of.Reads as reads
-use Rattle.dso.proofs.header.opcode_of.Lts as lts
-use Rattle.wire.proofs.field16.Reads as field16-reads
 use Rattle.dso.proofs.header.opcode_of.Goals as goal
 
 -- src/header.rt:7:1
