@@ -1,7 +1,7 @@
 -- 01, "Records, matches and notices", the faults of a batch by computation: "Edits are read left to right, the first fault
 -- decides: 16, then 14, then 15, then 17."
 use Prim.Native.Nat.{ℕ, zero, suc}
-use mathlib.Core.List.{List, [], ◌∷◌, ◌++◌, map}
+use mathlib.Core.List.{List, [], ◌∷◌, ◌++◌}
 use mathlib.Core.Path.{◌≡◌, refl}
 use lib.ListN.{take, replicate}
 use Rattle.wire.specs.Field.{octets, field}

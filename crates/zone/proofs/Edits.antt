@@ -10,7 +10,7 @@ use Rattle.zone.specs.Sound.{distinct}
 use Rattle.zone.specs.Batch.{is_put, edit, stored, batch_of}
 use Rattle.zone.proofs.Lists.{or_left, or_right}
 use Rattle.zone.proofs.Stores.{find-put, find-remove, distinct-put, distinct_remove}
-use Rattle.zone.proofs.Batches.{edited_by, Edits, batch-edits}
+use Rattle.zone.proofs.Batches.{edited_by, batch-edits}
 
 -- An edit touches its own key alone, and lets no key stand twice.
 pub find-edit : (k : Key) (r : Record) (l : List Record) → same_key (key_of r) k ≡ false → find k (edit l r) ≡ find k l

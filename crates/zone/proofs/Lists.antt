@@ -124,10 +124,12 @@ module _ {A : Type 0} where
       f
 
   pub all_of-at : (p : A → Bool) (l : List A) {a : A} → all_of p l ≡ true → Memᴰ a l → p a ≡ true
+  all_of-at p [] {a = a} e m = elim m [ ]
   all_of-at p (b ∷ l) e (Memᴰ.head q) = ap p q ∙ and_left (p b) (all_of p l) e
   all_of-at p (b ∷ l) e (Memᴰ.tail m) = all_of-at p l (and_right (p b) (all_of p l) e) m
 
   pub any_of-at : (p : A → Bool) (l : List A) {a : A} → Memᴰ a l → p a ≡ true → any_of p l ≡ true
+  any_of-at p [] {a = a} m e = elim m [ ]
   any_of-at p (b ∷ l) (Memᴰ.head q) e = rw (sym (ap p q) ∙ e)
   any_of-at p (b ∷ l) (Memᴰ.tail m) e = rw (any_of-at p l m e) (or-true (p b))
 

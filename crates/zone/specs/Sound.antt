@@ -1,5 +1,5 @@
 -- What holds of every store that a run from start has, and when a client has just a view.
-use Rattle.std.specs.Prelude.{ℕ, ◌≤◌, Bool, true, false, not, ◌&&◌, List, [], ◌∷◌, ◌≡◌, length, ltb}
+use Rattle.std.specs.Prelude.{ℕ, ◌≤◌, Bool, true, not, ◌&&◌, List, [], ◌∷◌, ◌≡◌, length, ltb}
 use Rattle.std.proofs.Math.Pow.{are_bytes}
 use Rattle.wire.specs.Name.{is_name}
 use Rattle.zone.specs.Lists.{all_of}
