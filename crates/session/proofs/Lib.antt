@@ -1,6 +1,5 @@
 -- Laws of a session's clocks and of its table of subscriptions.
 pub mod Timeouts
-pub mod Cell
 pub mod Table
 pub mod Held
 pub mod Changes
