@@ -1,0 +1,15 @@
+-- `notify::choice::choose` meets its contract. The loop's invariant: the first `i` marks are filled in. Assumes nothing.
+use Prim.Native.Nat.{◌-◌}
+use mathlib.Core.Path.{refl}
+use Rattle.notify.proofs.Marked.{filling-none, filling-turn}
+use Rattle.notify.proofs.Choices.{choosing-all}
+use Rattle.notify.proofs.choice.choose.Goals as goal
+
+pub loop-i-init : goal.loop-i-init
+loop-i-init c = filling-none _ _ _ _ refl
+
+pub loop-i-preserved : goal.loop-i-preserved
+loop-i-preserved c = search filling-turn
+
+pub returns : goal.returns
+returns c = search choosing-all

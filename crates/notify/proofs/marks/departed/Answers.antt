@@ -1,0 +1,14 @@
+-- `notify::marks::departed` meets its contract. The loop's invariant: the first `i` records are marked as they should be. Assumes nothing.
+use Prim.Native.Nat.{◌-◌}
+use mathlib.Core.Path.{refl}
+use Rattle.notify.proofs.Marked.{filling-none, unless-turn, unless-all}
+use Rattle.notify.proofs.marks.departed.Goals as goal
+
+pub loop-i-init : goal.loop-i-init
+loop-i-init c = filling-none _ _ _ _ refl
+
+pub loop-i-preserved : goal.loop-i-preserved
+loop-i-preserved c = search unless-turn
+
+pub returns : goal.returns
+returns c = search unless-all

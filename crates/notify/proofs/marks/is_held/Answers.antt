@@ -1,0 +1,12 @@
+-- `notify::marks::is_held` meets its contract. Assumes nothing.
+use Rattle.notify.proofs.Lookups.{held-there, held_found, held-nothing}
+use Rattle.notify.proofs.marks.is_held.Goals as goal
+
+pub returns-then-stands_at : goal.returns-then-stands_at
+returns-then-stands_at c = search held-there
+
+pub returns-in-At : goal.returns-in-At
+returns-in-At c = search held_found
+
+pub returns-in-Nothing : goal.returns-in-Nothing
+returns-in-Nothing c = search held-nothing
