@@ -64,9 +64,9 @@ finish-some o p q end h k e f =
       count = sym (ap (λ (b : Bool). cond b 0 end) (ne_eqb end front_length k));
     }
 
-front_length : (n : ℕ) → length (front n) ≡ front_length
+length-front : (n : ℕ) → length (front n) ≡ front_length
 unfolding front header octets
-front_length n = refl
+length-front n = refl
 
 front-push : (cs : List Change) → front (length (changes_octets cs)) ++ changes_octets cs ≡ push_octets cs
 unfolding front push_octets framed push_message tlvs_octets tlv_octets
@@ -111,7 +111,7 @@ module _ (o : List ℕ) (p : List ℕ) (end : ℕ) (q : List ℕ) (r : ℕ) (f :
         ap (λ (b : Bool). cond b 0 end) (ne_eqb end front_length later) ∙ omega (arith, w.place, length-changes_octets (c ∷ cs))
 
     place : front_length ≡ 0 + length (front (length body))
-    place = omega (arith, front_length (length body))
+    place = omega (arith, length-front (length body))
 
     push-some : Pushed o (c ∷ cs) q r
     push-some = record {

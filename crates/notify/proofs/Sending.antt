@@ -1,8 +1,8 @@
 -- Laws of the loops that write the changes of a PUSH.
-use Prim.Native.Nat.{ℕ, suc, min, ◌+◌, ◌-◌, ◌*◌, ◌≤◌, ◌<◌, ◌^◌}
+use Prim.Native.Nat.{ℕ, suc, min, ◌+◌, ◌*◌, ◌≤◌, ◌<◌}
 use mathlib.Core.Path.{◌≡◌, refl, sym, ap, ap₂, ◌∙◌}
 use mathlib.Core.Bool.{Bool, true, false, ◌&&◌}
-use mathlib.Core.List.{List, [], ◌∷◌, ◌++◌, map, append_assoc, append-nil}
+use mathlib.Core.List.{List, [], ◌∷◌, ◌++◌, map, append_assoc}
 use native.Mathlib.Nat.{add-zero}
 use native.Mathlib.Numerals.{add-one}
 use native.Mathlib.Omega.{arith}
@@ -13,7 +13,7 @@ use Rattle.zone.specs.Lists.{only_if}
 use Rattle.zone.specs.Record.{Record}
 use Rattle.zone.specs.Layout.{record_octets}
 use Rattle.zone.specs.Batch.{max_records}
-use Rattle.zone.specs.Table.{block_size, block_at, rec_of, records_of}
+use Rattle.zone.specs.Table.{block_at, rec_of, records_of}
 use Rattle.zone.proofs.Memory.{no_record, length-records, records-at}
 use Rattle.push.specs.Change.{Removal, Change, addition, removal, fields_of}
 use Rattle.push.specs.List.{additions}

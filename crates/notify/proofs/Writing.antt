@@ -1,8 +1,8 @@
 -- Laws of writing: one part behind another, a record, a removal, an addition.
 use Prim.Native.Nat.{ℕ, zero, suc, ◌+◌, ◌%◌, ◌^◌, ◌≤◌, ◌<◌}
-use mathlib.Core.Path.{◌≡◌, refl, sym, ap, ap₂, ◌∙◌}
-use mathlib.Core.Bool.{Bool, true, false}
-use mathlib.Core.List.{List, [], ◌∷◌, ◌++◌, append_assoc, append-nil}
+use mathlib.Core.Path.{◌≡◌, refl, sym, ap, ◌∙◌}
+use mathlib.Core.Bool.{Bool}
+use mathlib.Core.List.{List, [], ◌++◌, append_assoc, append-nil}
 use native.Mathlib.Nat.{add-zero}
 use native.Mathlib.Omega.{arith}
 use lib.ListN.{length, take, drop, length-append, length-take, length-drop}
@@ -10,7 +10,6 @@ use lib.Seq.{sets}
 use Rattle.wire.specs.Field.{field, octets}
 use Rattle.wire.specs.Part.{part}
 use Rattle.wire.proofs.Fields.{length-octets, octets-mod}
-use Rattle.wire.proofs.Writes.{sets-append}
 use Rattle.zone.specs.Lists.{only_if}
 use Rattle.zone.specs.Record.{Record}
 use Rattle.zone.specs.Layout.{record_octets, size}
@@ -18,9 +17,9 @@ use Rattle.zone.specs.Batch.{remove_ttl}
 use Rattle.zone.specs.Table.{block_size, rec_of, record_from}
 use Rattle.zone.proofs.Layouts.{length-record_octets}
 use Rattle.session.proofs.Changes.{written_then}
-use Rattle.push.specs.Change.{Removal, Change, addition, removal, fields_of, collective_ttl}
+use Rattle.push.specs.Change.{addition, removal, fields_of, collective_ttl}
 use Rattle.push.specs.Octets.{changes_octets}
-use Rattle.notify.specs.Marks.{removal_at, is_marked, addition_at}
+use Rattle.notify.specs.Marks.{removal_at, addition_at}
 use Rattle.notify.specs.Written.{Wrote, Step, room}
 use Rattle.notify.proofs.Marked.{mark-none, mark-some}
 

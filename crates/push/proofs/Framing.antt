@@ -1,22 +1,21 @@
 -- Messages behind their lengths, and PUSH messages: what is written is read back.
 use Prim.Native.Nat.{ℕ, zero, suc, ◌+◌, ◌≤◌, ◌<◌}
 use mathlib.Core.Path.{◌≡◌, refl, sym, ap, ap₂, ◌∙◌}
-use mathlib.Core.Bool.{Bool, true, false, cond, not, ◌&&◌}
+use mathlib.Core.Bool.{Bool, true, false, cond, not}
 use mathlib.Core.List.{List, [], ◌∷◌, ◌++◌, append_assoc, append-nil}
 use mathlib.Core.Option.{Option, none, some}
 use native.Mathlib.Nat.{le_of_suc-le-suc, not-suc-le-zero}
 use native.Mathlib.Omega.{arith}
 use lib.ListN.{length, take, drop, length-append, length-take}
 use lib.Seq.{take-append_seam, drop_at}
-use lib.Dec.{leb, eqb, lit<}
-use lib.Pow.{are_bytes}
-use borrow.Author.Tests.{leb-true, le-leb, lt-leb, eq-eqb}
+use lib.Dec.{leb, lit<}
+use borrow.Author.Tests.{leb-true, le-leb}
 use Rattle.wire.specs.Field.{field, octets}
-use Rattle.wire.proofs.Fields.{field-octets, length-octets, octets-are_bytes, are_bytes-append}
-use Rattle.dso.specs.Header.{header_length, dso_opcode, message_id, flags, is_response, opcode, no_records}
-use Rattle.dso.specs.Tlv.{Tlv, tlvs}
+use Rattle.wire.proofs.Fields.{field-octets, length-octets}
+use Rattle.dso.specs.Header.{header_length, flags, is_response, opcode}
+use Rattle.dso.specs.Tlv.{Tlv}
 use Rattle.dso.specs.Judge.{push_type}
-use Rattle.dso.specs.Response.{header, tlv_octets, tlvs_octets, framed}
+use Rattle.dso.specs.Response.{tlv_octets, tlvs_octets, framed}
 use Rattle.dso.proofs.Responses.{header-id, header-flags, header-no_records, header-drop, header-length, tlvs-octets}
 use Rattle.zone.specs.Lists.{all_of}
 use Rattle.zone.proofs.Lists.{and_left, and_right, never}
@@ -25,7 +24,7 @@ use Rattle.push.specs.Octets.{changes_octets, unidirectional_flags, push_message
 use Rattle.push.specs.Measure.{bytes}
 use Rattle.push.specs.Plain.{plain_change}
 use Rattle.push.specs.Frames.{frame_of, one_more, frames_in, is_unidirectional, one_at_least, changes_of, push_in}
-use Rattle.push.proofs.ReadBack.{changes_in-changes, length-changes_octets, changes_octets-are_bytes}
+use Rattle.push.proofs.ReadBack.{changes_in-changes, length-changes_octets}
 
 -- ---- a message behind its length
 

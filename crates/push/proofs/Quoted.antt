@@ -7,11 +7,10 @@ use lib.ListN.{length}
 use Rattle.zone.specs.Record.{Record}
 use Rattle.zone.specs.Match.{Subscription, view}
 use Rattle.zone.specs.Batch.{max_edits, stored, batch_of}
-use Rattle.zone.specs.Sound.{distinct, Exactly}
+use Rattle.zone.specs.Sound.{distinct}
 use Rattle.zone.proofs.Edits.{distinct-batch}
-use Rattle.push.specs.Change.{Change, applied_all}
 use Rattle.push.specs.List.{changes}
-use Rattle.push.specs.Measure.{Right, only_true, bytes, Brings}
+use Rattle.push.specs.Measure.{Right, bytes}
 use Rattle.push.proofs.Effects.{find-applied_all}
 use Rattle.push.proofs.Arrive.{Between, views-between, changes-true, arrives_at, arrives}
 use Rattle.push.proofs.Fewest.{fewest, shortest}

@@ -1,5 +1,5 @@
 -- The list of changes that 01 fixes for an old and a new view ("Records, matches and notices").
-use Rattle.std.specs.Prelude.{ℕ, Bool, true, false, cond, not, List, [], ◌∷◌, ◌++◌, map, eqb}
+use Rattle.std.specs.Prelude.{ℕ, Bool, false, cond, not, List, [], ◌∷◌, ◌++◌, map, eqb}
 use Rattle.std.specs.Bool.{beq}
 use Rattle.std.proofs.Math.Option.{Option, none, some}
 use Rattle.zone.specs.Lists.{keep, any_of, all_of, only_if}

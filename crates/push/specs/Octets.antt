@@ -1,5 +1,5 @@
 -- PUSH messages in octets, and reading them (RFC 8765, 6.3.1).
-use Rattle.std.specs.Prelude.{ℕ, zero, suc, pred, Bool, cond, not, ◌||◌, List, [], ◌∷◌, ◌++◌, length, leb, eqb}
+use Rattle.std.specs.Prelude.{ℕ, zero, suc, pred, cond, ◌||◌, List, [], ◌∷◌, ◌++◌, length, leb, eqb}
 use Rattle.std.proofs.Math.Option.{Option, none, some}
 use Rattle.dso.specs.Judge.{push_type}
 use Rattle.dso.specs.Response.{header, tlvs_octets, framed}

@@ -1,3 +1,2 @@
 // Change notifications: which list a session is sent, and its octets.
 #![tactic(auto)]
-

@@ -1,6 +1,6 @@
 -- However the input comes in chunks, cutting gives its lines, each as far as it is kept.
 use Prim.Native.Nat.{ℕ, zero, suc, ◌+◌, ◌≤◌, ◌<◌}
-use mathlib.Core.Path.{◌≡◌, refl, sym, ap, ap₂, ◌∙◌, subst, subst⁻¹}
+use mathlib.Core.Path.{◌≡◌, refl, sym, ap, ap₂, ◌∙◌, subst⁻¹}
 use mathlib.Core.Bool.{Bool, true, false, cond}
 use mathlib.Core.List.{List, [], ◌∷◌, ◌++◌, map, append-nil, append_assoc}
 use native.Mathlib.Omega.{arith}
@@ -9,7 +9,7 @@ use lib.Seq.{take_all}
 use lib.Dec.{eqb, ltb}
 use borrow.Author.Tests.{ltb-true, ltb-false, lt-ltb, le-ltb, lt-leb}
 use Rattle.script.specs.Fields.{until}
-use Rattle.script.specs.Line.{Line, max_line, line_of_fields, line_of}
+use Rattle.script.specs.Line.{Line, max_line, line_of}
 use Rattle.script.specs.Output.{lf}
 use Rattle.script.specs.Stream.{before, lines_in, room, kept, piece_of}
 use Rattle.script.specs.Chunks.{Feeds, used, ends, Reads, over, more, unended, joined}

@@ -1,21 +1,18 @@
 -- The input cut into lines: what is held of a line, and that cutting off what is too long makes no difference.
 use Prim.Native.Nat.{ℕ, zero, suc, ◌+◌, ◌-◌, ◌≤◌, ◌<◌, min}
-use mathlib.Core.Path.{◌≡◌, refl, sym, ap, ap₂, ◌∙◌, subst}
+use mathlib.Core.Path.{◌≡◌, sym, ap, ap₂, ◌∙◌}
 use mathlib.Core.Bool.{Bool, true, false}
 use mathlib.Core.List.{List, [], ◌∷◌, ◌++◌}
 use native.Mathlib.Nat.{sub-zero}
-use native.Mathlib.Numerals.{add-one}
 use native.Mathlib.Omega.{arith}
 use lib.ListN.{length, take, drop, drop_of_length-le}
 use lib.Seq.{sets}
-use lib.Dec.{ltb}
 use borrow.Author.Tests.{lt-ltb, le-ltb}
-use Rattle.wire.proofs.Writes.{sets-nil, sets-cons}
+use Rattle.wire.proofs.Writes.{sets-cons}
 use Rattle.script.specs.Fields.{until, First}
 use Rattle.script.specs.Output.{lf}
 use Rattle.script.specs.Code.{Written}
 use Rattle.script.specs.Stream.{room, kept, Piece, piece_of, Cuts}
-use Rattle.script.specs.declared.stream.Taken.{Taken}
 
 -- What stands in front of the next free place after a write: what stood there, and the text, as far as there is room.
 take-written-behind : (o : List ℕ) (at : ℕ) (text : List ℕ) → take (min (at + length text) (length o)) (sets o at text) ≡ take (length o) (take at o ++ text)

@@ -1,5 +1,4 @@
 -- `notify::choice::choose` meets its contract. The loop's invariant: the first `i` marks are filled in. Assumes nothing.
-use Prim.Native.Nat.{◌-◌}
 use mathlib.Core.Path.{refl}
 use Rattle.notify.proofs.Marked.{filling-none, filling-turn}
 use Rattle.notify.proofs.Choices.{choosing-all}

@@ -1,5 +1,4 @@
 -- `notify::message::is_first` meets its contract. The loop's invariant: no removal of the first `j` records covers record `i`. Assumes nothing.
-use Prim.Native.Nat.{◌-◌}
 use Rattle.notify.proofs.Heads.{first-none, first-all, first-not, first-turn}
 use Rattle.notify.proofs.message.is_first.Goals as goal
 

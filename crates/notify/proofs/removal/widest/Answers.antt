@@ -1,5 +1,4 @@
 -- `notify::removal::widest` meets its contract. The loop's invariant: `kind` is the widest that spares the first `i` records. Assumes nothing.
-use Prim.Native.Nat.{◌-◌}
 use Rattle.notify.proofs.Removals.{widest-none, widest-turn, widest-end}
 use Rattle.notify.proofs.removal.widest.Goals as goal
 

@@ -1,5 +1,4 @@
 -- `script::number::value` meets its contract. The loop's invariant: the first `i` digits stand for `x`. Assumes nothing.
-use Prim.Native.Nat.{◌-◌}
 use borrow.Author.Rules.{rules}
 use Rattle.script.proofs.Numbers.{summed-none, summed-end, summed-other, summed-large, summed_turn}
 use Rattle.script.proofs.number.value.Goals as goal

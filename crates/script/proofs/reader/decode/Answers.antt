@@ -1,5 +1,4 @@
 -- `script::reader::decode` meets its contract. The loop's invariant: `i` octets are decoded. Assumes nothing.
-use Prim.Native.Nat.{◌-◌}
 use borrow.Author.Rules.{rules}
 use Rattle.script.proofs.Bytes.{decoding-none, decoding-end, decoding-high, decoding-low, decoding-turn, hex-odd}
 use Rattle.script.proofs.reader.decode.Goals as goal
@@ -16,10 +15,10 @@ pub digit-high-requires : goal.digit-high-requires
 digit-high-requires c = search laws
 
 pub returns-then-high-gt15 : goal.returns-then-high-gt15
-returns-then-high-gt15 c = search laws
+returns-then-high-gt15 c = search decoding-high
 
 pub returns-then-low-gt15 : goal.returns-then-low-gt15
-returns-then-low-gt15 c = search laws
+returns-then-low-gt15 c = search decoding-low
 
 pub loop-i-smaller : goal.loop-i-smaller
 loop-i-smaller c = search laws

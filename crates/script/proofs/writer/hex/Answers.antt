@@ -1,5 +1,4 @@
 -- `script::writer::hex` meets its contract. The loop's invariant: the first `i` octets are written. Assumes nothing.
-use Prim.Native.Nat.{◌-◌}
 use borrow.Author.Rules.{rules}
 use native.Mathlib.Omega.{arith}
 use Rattle.script.proofs.Writing.{hexed-none, hexed-turn, hexed-end, hexed-long}
