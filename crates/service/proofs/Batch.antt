@@ -1,47 +1,35 @@
 -- A batch keeps the relation: each client is told the changes that lead from its old view to its new one.
-use Prim.Native.Nat.{ℕ, zero, suc, ◌+◌, ◌*◌, ◌≤◌, ◌<◌}
+use Prim.Native.Nat.{ℕ, ◌≤◌}
 use native.Mathlib.Nat.{zero-add}
 use native.Mathlib.Omega.{arith}
 use mathlib.Core.Bool.{Bool, true, false, cond, ◌||◌}
-use mathlib.Core.List.{List, [], ◌∷◌, ◌++◌, map, append-nil}
+use mathlib.Core.List.{List, [], ◌∷◌, map}
 use mathlib.Core.Option
 use mathlib.Core.Option.{Option, none, some}
-use mathlib.Core.Path.{◌≡◌, refl, sym, ap, ◌∙◌}
+use mathlib.Core.Path.{◌≡◌, refl, ◌∙◌}
 use lib.ListN.{length, get_or, length-map, get_or-map}
 use lib.Pow.{are_bytes}
-use lib.Dec.{eqb, ltb}
-use borrow.Author.Tests.{ltb-false}
+use lib.Dec.{eqb}
 use Rattle.zone.specs.Lists.{all_of}
 use Rattle.zone.specs.Record.{Record}
 use Rattle.zone.specs.Match.{Subscription, view}
-use Rattle.zone.specs.Batch.{batch_of, Edited, stored, faulty}
+use Rattle.zone.specs.Batch.{batch_of, stored}
 use Rattle.zone.specs.Sound.{Exactly, Sound}
 use Rattle.zone.proofs.Batches.{sound-batch}
 use Rattle.push.specs.Change.{Change, applied_all}
 use Rattle.push.specs.List.{changes}
 use Rattle.push.specs.Octets.{push_of}
-use Rattle.push.specs.Frames.{frames_in}
 use Rattle.push.proofs.Framing.{Sendable, push_messages, frames_in-push_of, push_in-changes}
 use Rattle.push.proofs.Plains.{changes-plain, sendable, length-push_of-le}
-use Rattle.service.specs.State.{State, Session, Slot, free, live, max_sessions}
-use Rattle.service.specs.Answer.{Answer, done, sent, answer_number}
+use Rattle.service.specs.State.{Slot, free, live, max_sessions}
+use Rattle.service.specs.Answer.{done, sent, answer_number}
 use Rattle.service.specs.Checks.{output_size, least_output}
 use Rattle.service.specs.Call.{Bytes, edits, push_to, told, written}
-use Rattle.service.specs.Reader.{bytes_for, messages_in, or_none, all_pushes, pushes_in, pushes_of}
-use Rattle.service.specs.Observer.{
-  Client,
-  Observer,
-  noted,
-  observe,
-  hearing,
-  heard,
-  stored_or,
-  apply_push,
-  apply_pushes,
-}
+use Rattle.service.specs.Reader.{bytes_for, messages_in, all_pushes, pushes_in}
+use Rattle.service.specs.Observer.{Client, noted, observe, hearing, stored_or, apply_pushes}
 use Rattle.service.specs.Demand.{Run, in_one}
 use Rattle.service.proofs.Outputs.{count-told, bytes-told, written-kept}
-use Rattle.service.proofs.Related.{Told, PlaceAt, Related, Leads, length-heard, heard-at}
+use Rattle.service.proofs.Related.{PlaceAt, Related, Leads, length-heard, heard-at}
 
 -- ---- a PUSH is heard as the changes that it was written for
 

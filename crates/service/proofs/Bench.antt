@@ -1,6 +1,5 @@
 -- The bench examples of 01, and some of its other rules, settled by one proof: each is computed with the definitions.
-use Prim.Native.Nat.{ℕ, ◌-◌}
-use mathlib.Core.Bool.{true, false}
+use Prim.Native.Nat.{ℕ}
 use mathlib.Core.List.{List, [], ◌∷◌, ◌++◌, map}
 use mathlib.Core.Option.{Option, some}
 use mathlib.Core.Path.{◌≡◌, refl}
@@ -50,7 +49,7 @@ use Rattle.session.specs.Clocks.{started, received, granted, expired}
 use Rattle.session.specs.Subscriptions.{uses_id, asks_already, is_full, without}
 use Rattle.service.specs.State.{State, free, slot_at, fresh, lowest_free}
 use Rattle.service.specs.Answer.{Answer, opened, done, sent, aborted, reconfirm, refused}
-use Rattle.service.specs.Checks.{refusal_of, least_output}
+use Rattle.service.specs.Checks.{refusal_of}
 use Rattle.service.specs.Message.{asked, subscribed, kept_alive, answered, message_effect}
 use Rattle.service.specs.Call.{
   Bytes,

@@ -16,7 +16,7 @@ use Rattle.zone.specs.Record.{Record}
 use Rattle.zone.specs.Batch.{batch_of, Edited, stored, faulty}
 use Rattle.zone.proofs.Lists.{decided}
 use Rattle.service.specs.State.{State, Session, Slot, free, live, slot_at, max_sessions, lowest_free}
-use Rattle.service.specs.Answer.{Answer, done, opened, sent, refused, answer_number, refusal_number}
+use Rattle.service.specs.Answer.{Answer, done, sent, refused, answer_number, refusal_number}
 use Rattle.service.specs.Checks.{refusal_of, is_free, is_short, is_absent, output_size, least_output}
 use Rattle.service.specs.Message.{Effect, abort, nothing, reply, others, places}
 use Rattle.service.specs.Call.{

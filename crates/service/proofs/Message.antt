@@ -1,31 +1,20 @@
 -- A message keeps the relation, whatever its judgment.
-use Prim.Native.Nat.{ℕ, zero, suc, ◌+◌, ◌*◌, ◌^◌, ◌≤◌, ◌<◌}
+use Prim.Native.Nat.{ℕ, ◌+◌, ◌*◌, ◌≤◌, ◌<◌}
 use native.Mathlib.Omega.{arith}
-use mathlib.Core.Bool.{Bool, true, false, cond, not, ◌&&◌, ◌||◌, or-false, and-true, and-false}
+use mathlib.Core.Bool.{Bool, true, false, cond, not, or-false, and-false}
 use mathlib.Core.List.{List, [], ◌∷◌, ◌++◌, append-nil}
-use mathlib.Core.Option.{Option, none, some, map}
+use mathlib.Core.Option.{Option, none, some}
 use mathlib.Core.Path.{◌≡◌, refl, sym, ap, ap₂, subst, ◌∙◌}
 use lib.ListN.{length, get_or, set, take, drop, length-set, length-append}
-use lib.Seq.{sets, get_or-set_same, set-set, set-get_or}
-use lib.Dec.{eqb, leb, ltb}
-use borrow.Author.Tests.{eqb-true, eq-eqb, ne_eqb, leb-false, ltb-false}
+use lib.Seq.{get_or-set_same, set-set, set-get_or}
+use lib.Dec.{eqb, leb}
+use borrow.Author.Tests.{leb-false, ltb-false}
 use Rattle.wire.specs.Field.{field, octets}
 use Rattle.wire.specs.Name.{within}
 use Rattle.wire.proofs.Fields.{field_lt, field-take-le}
 use Rattle.dso.specs.Header.{message_id, is_response, rcode}
-use Rattle.dso.specs.Judge.{subscribe_type, keepalive_type, data_start, question, judgment, judged}
-use Rattle.dso.specs.Response.{
-  rcode_of,
-  response_code,
-  response,
-  response_octets,
-  framed,
-  granted as granted_timeouts,
-  header,
-  tlv_octets,
-  tlvs_octets,
-  ReadsAs,
-}
+use Rattle.dso.specs.Judge.{subscribe_type, keepalive_type, data_start, judgment, judged}
+use Rattle.dso.specs.Response.{rcode_of, response_code, response, response_octets, framed, granted as granted_timeouts, header, tlv_octets, tlvs_octets}
 use Rattle.dso.specs.declared.judgment.MessageId.{MessageId}
 use Rattle.dso.specs.declared.judgment.RecordPlaces.{RecordPlaces}
 use Rattle.dso.specs.declared.judgment.QuestionPlaces.{QuestionPlaces}
@@ -49,20 +38,19 @@ use Rattle.dso.proofs.Responses.{response-reads, framed-message}
 use Rattle.zone.specs.Lists.{keep}
 use Rattle.zone.specs.Record.{Record}
 use Rattle.zone.specs.Match.{Subscription, matches, wanted, view}
-use Rattle.zone.specs.Sound.{Exactly}
 use Rattle.zone.proofs.Lists.{keep_same, or_left, or_right}
 use Rattle.zone.proofs.Views.{view-fewer, wanted_key-fewer}
 use Rattle.push.specs.Change.{Change, applied_all}
 use Rattle.push.specs.List.{additions}
 use Rattle.push.specs.Octets.{push_of}
-use Rattle.push.specs.Frames.{frames_in, push_in}
-use Rattle.push.proofs.Framing.{Sendable, frames_in-reply, frames_in-framed, frames_in-nil, push_messages, push_of-nil, response-not-push}
+use Rattle.push.specs.Frames.{frames_in}
+use Rattle.push.proofs.Framing.{Sendable, frames_in-reply, frames_in-framed, frames_in-nil, push_messages, response-not-push}
 use Rattle.push.proofs.Plains.{first-sendable, first-room}
 use Rattle.push.proofs.Subscribing.{view-more}
 use Rattle.session.specs.Clocks.{received}
 use Rattle.session.specs.Subscriptions.{uses_id, asks_already, is_full, without}
-use Rattle.service.specs.State.{State, Session, Slot, free, live, slot_at, max_sessions}
-use Rattle.service.specs.Answer.{Answer, done, sent, not_ours, aborted, reconfirm, answer_number}
+use Rattle.service.specs.State.{Session, Slot, free, live, slot_at, max_sessions}
+use Rattle.service.specs.Answer.{Answer, done, not_ours, aborted, reconfirm, answer_number}
 use Rattle.service.specs.Checks.{output_size, least_output, is_free}
 use Rattle.service.specs.Message.{
   Effect,
@@ -79,26 +67,9 @@ use Rattle.service.specs.Message.{
   answered,
   message_effect,
 }
-use Rattle.service.specs.Call.{Bytes, receives, brought, with_slots, effect_outcome, message_outcome, effect_at}
-use Rattle.service.specs.Reader.{count_for, bytes_for, messages_in, or_none, is_success}
-use Rattle.service.specs.Observer.{
-  Client,
-  Observer,
-  with_clients,
-  noted,
-  observe,
-  hearing,
-  heard,
-  apply_pushes,
-  apply_push,
-  after_message,
-  is_accepted,
-  change_at,
-  subscribing,
-  unsubscribing,
-  subscription_in,
-  named,
-}
+use Rattle.service.specs.Call.{Bytes, receives, brought, with_slots, effect_outcome, message_outcome}
+use Rattle.service.specs.Reader.{count_for, bytes_for, messages_in, or_none}
+use Rattle.service.specs.Observer.{Client, with_clients, noted, observe, hearing, apply_pushes, apply_push, after_message, is_accepted, subscribing, unsubscribing, subscription_in}
 use Rattle.service.specs.Demand.{Run}
 use Rattle.service.proofs.Outputs.{nothing-kept}
 use Rattle.service.proofs.Related.{Told, PlaceAt, Related, Leads}
@@ -106,7 +77,7 @@ use Rattle.service.proofs.Quiet.{observe-nothing, nothing-accepted}
 use Rattle.service.proofs.Checks.{Passed}
 use Rattle.service.proofs.Plain.{replaced}
 use Rattle.service.proofs.Batch.{pushed-applied}
-use Rattle.service.proofs.Replies.{counts, bytes-own, own-kept, heard-own}
+use Rattle.service.proofs.Replies.{bytes-own, own-kept, heard-own}
 
 -- ---- replies as the observer reads them
 

@@ -1,19 +1,17 @@
 -- Open, close and tick keep the relation.
-use Prim.Native.Nat.{ℕ, zero, suc, ◌≤◌, ◌<◌}
-use native.Mathlib.Omega.{arith}
+use Prim.Native.Nat.{ℕ, zero, suc}
 use mathlib.Core.Bool.{Bool, true, false, cond}
 use mathlib.Core.List.{List, [], ◌∷◌, map}
 use mathlib.Core.Option.{Option, none, some}
 use mathlib.Core.Path.{◌≡◌, refl, sym, ap, ◌∙◌}
 use lib.ListN.{length, get_or, set, length-set, length-map, get_or-map}
 use Rattle.zone.specs.Record.{Record, Key}
-use Rattle.zone.specs.Match.{view}
 use Rattle.zone.specs.Store.{find}
-use Rattle.zone.specs.Sound.{distinct, Exactly}
+use Rattle.zone.specs.Sound.{distinct}
 use Rattle.zone.proofs.Views.{find-view}
 use Rattle.session.specs.Clocks.{started}
-use Rattle.service.specs.State.{State, Session, Slot, free, live, lowest_free}
-use Rattle.service.specs.Answer.{Answer, done, opened, ended, refused, answer_number}
+use Rattle.service.specs.State.{Slot, free, live, lowest_free}
+use Rattle.service.specs.Answer.{done, opened, ended, refused, answer_number}
 use Rattle.service.specs.Call.{Call, opens, closes, ticks, lent, open_outcome, close_outcome, tick_outcome, ends_at, refuse}
 use Rattle.service.specs.declared.refusal.Refusal.{Refusal}
 use Rattle.service.specs.declared.refusal.Refusal.TheVariants.{AllOpen}

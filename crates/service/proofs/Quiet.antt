@@ -1,15 +1,13 @@
 -- A call that states no bytes tells the clients nothing, and a refused call changes nothing.
 use Prim.Native.Nat.{ℕ, suc, ◌≤◌, ◌<◌}
 use native.Mathlib.Omega.{arith}
-use mathlib.Core.Bool.{Bool, true, false, cond, ◌&&◌, ◌||◌, and-false}
+use mathlib.Core.Bool.{false, and-false}
 use mathlib.Core.List.{List, [], ◌∷◌}
 use mathlib.Core.Option.{Option, none, some, map}
-use mathlib.Core.Path.{◌≡◌, refl, sym, ap, ap₂, ◌∙◌}
+use mathlib.Core.Path.{◌≡◌, refl, ap, ap₂, ◌∙◌}
 use lib.Dec.{eqb}
 use borrow.Author.Tests.{ne_eqb}
-use Rattle.zone.specs.declared.BatchFault.{BatchFault}
 use Rattle.zone.specs.declared.BatchFault.TheVariants.{TooManyEdits, Unreadable, BadValue, StoreFull}
-use Rattle.push.specs.Frames.{frames_in}
 use Rattle.push.proofs.Framing.{frames_in-nil}
 use Rattle.dso.specs.Judge.{subscribe_type}
 use Rattle.dso.specs.Parts.{first_type}
@@ -25,22 +23,8 @@ use Rattle.service.specs.declared.refusal.Refusal.TheVariants.{
   MessageTooLong,
   NotAName,
 }
-use Rattle.service.specs.Reader.{bytes_for, messages_in, or_none, is_success}
-use Rattle.service.specs.Observer.{
-  Client,
-  Observer,
-  with_clients,
-  hearing,
-  heard,
-  noted,
-  observe,
-  is_accepted,
-  after_message,
-  change_at,
-  unsubscribing,
-  subscribing,
-  subscription_in,
-}
+use Rattle.service.specs.Reader.{bytes_for, messages_in, or_none}
+use Rattle.service.specs.Observer.{Client, Observer, with_clients, hearing, heard, noted, observe, is_accepted, after_message}
 
 pub messages_in-nil : messages_in [] ≡ []
 unfolding messages_in

@@ -1,27 +1,27 @@
 -- What holds between the server's state and the observer after every call: the same store, and place by place the same
 -- subscriptions and a client that has just its view.
 use Prim.Native.Nat.{ℕ, zero, suc, ◌+◌, ◌≤◌, ◌<◌}
-use native.Mathlib.Nat.{add-suc, suc-add, add-zero, zero-add, le_refl}
+use native.Mathlib.Nat.{add-suc, suc-add, add-zero}
 use native.Mathlib.Omega.{arith}
-use mathlib.Core.Bool.{Bool, true, false, cond}
-use mathlib.Core.List.{List, [], ◌∷◌, map}
+use mathlib.Core.Bool.{true, false}
+use mathlib.Core.List.{List, [], ◌∷◌}
 use mathlib.Core.Option
 use mathlib.Core.Option.{Option, none, some}
-use mathlib.Core.Path.{◌≡◌, refl, sym, ap, subst, ◌∙◌}
+use mathlib.Core.Path.{◌≡◌, refl, sym, ap, ◌∙◌}
 use mathlib.Core.Logic.{⊎_elim}
-use lib.ListN.{length, get_or, set, length-set}
+use lib.ListN.{length, get_or, set}
 use lib.Seq.{get_or-set_same, get_or-set_other, set_out}
 use lib.Dec.{eqb, ltb}
 use borrow.Author.Tests.{eqb-true, eqb-false, ltb-true, ltb-false}
 use Rattle.zone.specs.Record.{Record}
-use Rattle.zone.specs.Match.{Subscription, view}
+use Rattle.zone.specs.Match.{view}
 use Rattle.zone.specs.Sound.{Exactly, Sound}
 use Rattle.zone.proofs.Lists.{decided}
-use Rattle.service.specs.State.{State, Session, Slot, free, live, max_sessions}
+use Rattle.service.specs.State.{Session, Slot, free, live, max_sessions}
 use Rattle.service.specs.Answer.{Answer}
 use Rattle.service.specs.Reader.{bytes_for}
 use Rattle.service.specs.Call.{Call, Outcome, lent}
-use Rattle.service.specs.Observer.{Client, Observer, hearing, heard, observe}
+use Rattle.service.specs.Observer.{Client, hearing, heard, observe}
 use Rattle.service.specs.Demand.{Run, Kept}
 
 pub record Told (store : List Record) (x : Session) (c : Client) : Type 0 where

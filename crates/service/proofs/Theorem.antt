@@ -1,12 +1,11 @@
 -- Demand 3 over whole lists of calls.
 use Prim.Native.Nat.{ℕ, ◌≤◌}
 use native.Mathlib.Omega.{arith}
-use mathlib.Core.Bool.{Bool, true, false, cond, ◌||◌}
+use mathlib.Core.Bool.{Bool, true, false, cond}
 use mathlib.Core.List.{List, [], ◌∷◌, map}
 use mathlib.Core.Option.{Option, none, some}
-use mathlib.Core.Path.{◌≡◌, refl, sym, ap, subst, ◌∙◌}
+use mathlib.Core.Path.{◌≡◌, refl}
 use lib.ListN.{length, get_or, replicate, length-replicate}
-use lib.Dec.{eqb}
 use borrow.Author.Tests.{ltb-false}
 use Rattle.wire.specs.Name.{is_name}
 use Rattle.zone.specs.Record.{Record}
@@ -18,51 +17,15 @@ use Rattle.push.specs.List.{changes}
 use Rattle.push.specs.Octets.{push_of}
 use Rattle.push.specs.Change.{applied_all}
 use Rattle.push.proofs.Quoted.{AfterBatch, after-batch}
-use Rattle.service.specs.State.{State, Session, Slot, free, live, max_sessions, fresh}
-use Rattle.service.specs.Answer.{Answer, refused}
+use Rattle.service.specs.State.{State, Slot, free, live, max_sessions, fresh}
 use Rattle.service.specs.Checks.{refusal_of, least_output}
-use Rattle.service.specs.Call.{
-  Bytes,
-  Call,
-  opens,
-  closes,
-  receives,
-  edits,
-  ticks,
-  Outcome,
-  Started,
-  running,
-  unnamed,
-  start,
-  refuse,
-  brought,
-  lent,
-  passed,
-  outcome,
-  batch_outcome,
-  push_to,
-  told,
-  written,
-}
+use Rattle.service.specs.Call.{Bytes, Call, opens, closes, receives, edits, ticks, Outcome, running, unnamed, start, refuse, brought, lent, passed, outcome, batch_outcome, push_to, told, written}
 use Rattle.service.specs.declared.refusal.Refusal.{Refusal}
 use Rattle.service.specs.declared.refusal.Refusal.TheVariants.{Batch, NotAName}
-use Rattle.service.specs.Reader.{bytes_for, pushes_in}
-use Rattle.service.specs.Observer.{Client, Observer, watching, observe}
-use Rattle.service.specs.Demand.{
-  Run,
-  begun,
-  stepped,
-  run_of,
-  Faithful,
-  in_one,
-  is_batch,
-  is_done,
-  Pushed,
-  is_open,
-  is_living,
-  HoldsNext,
-}
-use Rattle.service.proofs.Related.{Told, PlaceAt, Related, Leads}
+use Rattle.service.specs.Reader.{bytes_for}
+use Rattle.service.specs.Observer.{Client, watching, observe}
+use Rattle.service.specs.Demand.{Run, begun, stepped, run_of, Faithful, is_batch, is_done, Pushed, is_open, is_living, HoldsNext}
+use Rattle.service.proofs.Related.{PlaceAt, Related, Leads}
 use Rattle.service.proofs.Quiet.{refusal-not}
 use Rattle.service.proofs.Checks.{Passed, checks-passed}
 use Rattle.service.proofs.Plain.{refused-kept, open_kept, close-kept, tick-kept}

@@ -1,17 +1,17 @@
 -- The calls, and the outcome of each: the answer with its values, the next state, and the whole output slice as it is then.
-use Rattle.std.specs.Prelude.{ℕ, zero, suc, ◌+◌, ◌*◌, Bool, true, false, cond, not, List, [], ◌∷◌, map, ◌≡◌, length, set, replicate, eqb}
-use Rattle.std.proofs.Math.Option.{Option, none, some}
+use Rattle.std.specs.Prelude.{ℕ, suc, ◌*◌, Bool, true, false, cond, List, [], ◌∷◌, map, ◌≡◌, length, set, replicate, eqb}
+use Rattle.std.proofs.Math.Option.{none, some}
 use Rattle.std.proofs.Math.Pow.{are_bytes}
 use Rattle.std.proofs.lemmas.List.Edits.{sets}
 use Rattle.wire.specs.Name.{is_name}
 use Rattle.zone.specs.Lists.{all_of}
 use Rattle.zone.specs.Record.{Record}
 use Rattle.zone.specs.Match.{Subscription, view}
-use Rattle.zone.specs.Batch.{batch_of, Edited, stored, faulty}
+use Rattle.zone.specs.Batch.{batch_of, stored, faulty}
 use Rattle.push.specs.List.{changes}
 use Rattle.push.specs.Octets.{push_of}
 use Rattle.session.specs.Clocks.{started, expired}
-use Rattle.service.specs.State.{State, Session, Slot, free, live, slot_at, max_sessions, fresh, lowest_free}
+use Rattle.service.specs.State.{State, Slot, free, live, slot_at, max_sessions, fresh, lowest_free}
 use Rattle.service.specs.Answer.{
   Answer,
   done,

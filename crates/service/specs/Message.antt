@@ -1,5 +1,5 @@
 -- What a received message does to its session (01, "Judging a message", from the judgment of its octets on).
-use Rattle.std.specs.Prelude.{ℕ, Bool, true, false, cond, not, List, [], ◌∷◌, ◌++◌, map, take, drop}
+use Rattle.std.specs.Prelude.{ℕ, cond, not, List, [], ◌∷◌, ◌++◌, take, drop}
 use Rattle.wire.specs.Field.{field}
 use Rattle.wire.specs.Name.{within}
 use Rattle.dso.specs.Judge.{judged}
@@ -9,7 +9,6 @@ use Rattle.dso.specs.declared.judgment.Place.{Place}
 use Rattle.dso.specs.declared.judgment.QuestionPlaces.{QuestionPlaces}
 use Rattle.dso.specs.declared.judgment.MessageId.{MessageId}
 use Rattle.dso.specs.declared.judgment.RecordPlaces.{RecordPlaces}
-use Rattle.dso.specs.declared.judgment.ReplyCode.{ReplyCode}
 use Rattle.dso.specs.declared.judgment.ReplyCode.TheVariants.{ServFail, NotAuth}
 use Rattle.dso.specs.declared.judgment.Judgment.{Judgment}
 use Rattle.dso.specs.declared.judgment.Judgment.TheVariants.{

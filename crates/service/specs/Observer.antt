@@ -1,6 +1,6 @@
 -- The observer (01: the plain book), kept from the calls' arguments, answers and bytes stated as written, and never from the
 -- server's state.
-use Rattle.std.specs.Prelude.{ℕ, suc, ◌+◌, Bool, true, false, cond, ◌&&◌, ◌||◌, List, [], ◌∷◌, ◌++◌, set, get_or, take, drop, replicate, eqb}
+use Rattle.std.specs.Prelude.{ℕ, suc, ◌+◌, Bool, cond, ◌&&◌, ◌||◌, List, [], ◌∷◌, ◌++◌, set, get_or, take, drop, replicate, eqb}
 use Rattle.std.proofs.Math.Option.{Option, none, some, map}
 use Rattle.wire.specs.Field.{field}
 use Rattle.wire.specs.Name.{name_length}

@@ -1,5 +1,5 @@
 -- How the observer reads the bytes that a session was sent.
-use Rattle.std.specs.Prelude.{ℕ, ◌*◌, Bool, true, false, ◌&&◌, List, [], ◌∷◌, get_or, take, drop, eqb}
+use Rattle.std.specs.Prelude.{ℕ, ◌*◌, Bool, false, ◌&&◌, List, [], ◌∷◌, get_or, take, drop, eqb}
 use Rattle.std.proofs.Math.Option.{Option, none, some}
 use Rattle.dso.specs.Header.{is_response, rcode}
 use Rattle.push.specs.Change.{Change}

@@ -1,5 +1,5 @@
 -- The state of the server (01: the dock).
-use Rattle.std.specs.Prelude.{ℕ, Bool, true, false, List, [], ◌∷◌, get_or, replicate, suc}
+use Rattle.std.specs.Prelude.{ℕ, List, [], ◌∷◌, get_or, replicate, suc}
 use Rattle.std.proofs.Math.Option.{Option, none, some, map}
 use Rattle.zone.specs.Record.{Record}
 use Rattle.zone.specs.Match.{Subscription}
