@@ -8,7 +8,7 @@ use lib.Seq.{sets}
 use Rattle.wire.specs.Field.{field}
 use Rattle.wire.specs.Name.{max_name}
 use Rattle.wire.proofs.Names.{name_length-max}
-use Rattle.dso.specs.Judge.{data_start, judgment, judged}
+use Rattle.dso.specs.Judge.{data_start, judged}
 use Rattle.dso.specs.Response.{response_octets}
 use Rattle.dso.specs.declared.judgment.Place.{Place}
 use Rattle.dso.specs.declared.judgment.QuestionPlaces.{QuestionPlaces}

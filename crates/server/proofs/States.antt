@@ -9,7 +9,6 @@ use Rattle.session.specs.Clocks.{started}
 use Rattle.session.specs.Table.{subscriptions_of}
 use Rattle.session.proofs.Table.{subscriptions_of-none}
 use Rattle.service.specs.State.{free, live, slot_at}
-use Rattle.service.specs.State as Service
 use Rattle.service.specs.Checks.{is_free}
 use Rattle.service.specs.Call.{with_slots}
 use Rattle.server.specs.declared.state.Session.{Session}
