@@ -3,7 +3,7 @@ ghost use Rattle.std.specs.Prelude.{◌≡◌, true};
 ghost use Rattle.std.proofs.Math.Pow.{are_bytes};
 ghost use Rattle.script.specs.Line.{octets_in};
 ghost use Rattle.script.specs.Code.{command_line};
-ghost use Rattle.server.specs.Memory.{memory_now, state_of};
+ghost use Rattle.server.specs.Memory.{memory_of, state_of};
 ghost use Rattle.transcript.specs.Responses.{step_of, response_to, Tells};
 ghost use Rattle.replay.specs.Performing.{told_of, Performs};
 
@@ -54,8 +54,8 @@ fn perform(
     bytes: &Bytes,
     out: &mut Output,
 ) -> Performed
-    ensures { let before = memory_now zone.entry first.entry second.entry s0.entry s1.entry s2.entry s3.entry in
-        let after = memory_now zone.entry first.exit second.exit s0.exit s1.exit s2.exit s3.exit in
+    ensures { let before = memory_of zone.now first.old second.old s0.old s1.old s2.old s3.old in
+        let after = memory_of zone.now first.new second.new s0.new s1.new s2.new s3.new in
         let line = command_line command bytes.now in
         (small : are_bytes (octets_in line) ≡ true)
         → Performs server result after out.new (step_of (state_of server before) out.old line small) }
@@ -112,8 +112,8 @@ pub fn respond(
     out: &mut Output,
     text: &mut Text,
 ) -> Response
-    ensures { let before = memory_now zone.entry first.entry second.entry s0.entry s1.entry s2.entry s3.entry in
-        let after = memory_now zone.entry first.exit second.exit s0.exit s1.exit s2.exit s3.exit in
+    ensures { let before = memory_of zone.now first.old second.old s0.old s1.old s2.old s3.old in
+        let after = memory_of zone.now first.new second.new s0.new s1.new s2.new s3.new in
         Tells server result.server after out.new text.old text.new result.length
         (response_to (state_of server before) out.old line.now) }
 {

@@ -1,7 +1,6 @@
 -- The server's state (01: the dock) is numbers, by value, and octets in memory that the caller lends with each call. What
 -- any numbers and any octets hold: a count over its limit counts as the limit, and a part is no longer than its place.
 use Rattle.std.specs.Prelude.{ℕ, zero, suc, cond, List, [], ◌∷◌, take, get_or}
-use Rattle.std.specs.Borrow.{Bor}
 use Rattle.zone.specs.Record.{Record}
 use Rattle.zone.specs.Table.{records_of}
 use Rattle.session.specs.Table.{subscriptions_of}
@@ -36,11 +35,6 @@ with_areas a b c d m = record { zone = m.zone; first = m.first; second = m.secon
 abbrev pub memory_of : List ℕ → List ℕ → List ℕ → List ℕ → List ℕ → List ℕ → List ℕ → Memory
 memory_of zone first second a b c d =
     record { zone = zone; first = first; second = second; s0 = a; s1 = b; s2 = c; s3 = d }
-
--- The memory that lent references refer to, each as it is at a call's entry or at its exit.
-abbrev pub memory_now : Bor (List ℕ) → Bor (List ℕ) → Bor (List ℕ) → Bor (List ℕ) → Bor (List ℕ) → Bor (List ℕ) → Bor (List ℕ)
-    → Memory
-memory_now zone first second a b c d = memory_of zone.now first.now second.now a.now b.now c.now d.now
 
 unfoldable pub put_area : ℕ → List ℕ → Memory → Memory
 put_area zero a m = with_areas a m.s1 m.s2 m.s3 m

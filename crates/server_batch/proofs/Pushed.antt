@@ -28,10 +28,8 @@ use Rattle.notify.specs.Written.{Pushed}
 use Rattle.notify.proofs.Messages.{changes-for}
 use Rattle.service.specs.State.{State, Slot}
 use Rattle.service.specs.Answer.{done, sent, refused}
-use Rattle.service.specs.Answer as Service
 use Rattle.service.specs.Checks.{refusal_of, least_output}
 use Rattle.service.specs.Call.{brought, passed, outcome, edits, refuse, with_store, push_to, told, written, batch_outcome}
-use Rattle.service.specs.Call as Call
 use Rattle.service.proofs.Checks.{checks-passed}
 use Rattle.service.specs.declared.refusal.Refusal.{Refusal}
 use Rattle.service.specs.declared.refusal.Refusal.TheVariants.{Batch}

@@ -4,7 +4,7 @@ ghost use Rattle.zone.specs.Table.{records_of};
 ghost use Rattle.service.specs.Call.{Bytes, Call, push_to, edits};
 ghost use Rattle.service.specs.State.{max_sessions};
 ghost use Rattle.service.specs.Checks.{output_size, least_output};
-ghost use Rattle.server.specs.Memory.{slot_of, memory_now};
+ghost use Rattle.server.specs.Memory.{slot_of, memory_of};
 ghost use Rattle.server.specs.Answers.{answer_of, counts_of, Serves};
 ghost use Rattle.server_batch.specs.Pushing.{Tells, Changed, TellsAll, told_of, committed_of, Announces, slots_at, Edits};
 ghost use Rattle.std.proofs.Math.Pow.{are_bytes};
@@ -186,12 +186,12 @@ pub fn batch(
     out: &mut [u8],
 ) -> Outcome
     ensures serves { (
-        let before = memory_now zone.entry first.entry second.entry s0.entry s1.entry s2.entry s3.entry in
-        let after = memory_now zone.entry first.exit second.exit s0.entry s1.entry s2.entry s3.entry in
+        let before = memory_of zone.now first.old second.old s0.now s1.now s2.now s3.now in
+        let after = memory_of zone.now first.new second.new s0.now s1.now s2.now s3.now in
         let call : Bytes → Call = λ lent. edits t lent out.old in
         (small : are_bytes bytes.now ≡ true)
         → Serves server before (call (record { list = bytes.now; small = small })) result after out.new) }
-    ensures bytes_value { are_bytes bytes.now ≡ true }
+    ensures small { are_bytes bytes.now ≡ true }
 {
     let b = Brought {
         output: Given::Is(out.len() as u64),

@@ -4,7 +4,7 @@ ghost use Rattle.std.proofs.Math.Pow.{are_bytes};
 ghost use Rattle.service.specs.State.{max_sessions};
 ghost use Rattle.service.specs.Checks.{output_size, least_output};
 ghost use Rattle.service.specs.Call.{Bytes, Call, receives};
-ghost use Rattle.server.specs.Memory.{memory_now};
+ghost use Rattle.server.specs.Memory.{memory_of};
 ghost use Rattle.server.specs.Answers.{Serves, heard_in};
 ghost use Rattle.server_message.specs.Delivery.{count_at, answer_to, session_after, concluded_of, declined_of, effect_in};
 ghost use Rattle.server_message.specs.Delivery.{DoesAt, Numbered, Turns, Delivers, Hears};
@@ -116,8 +116,8 @@ fn turn(
     m: &[u8],
     out: &mut [u8],
 ) -> Heard
-    requires i_lt_max_sessions { (i < max_sessions) × (least_output ≤ length out.old) }
-    requires live_value { c.session.live ≡ true }
+    requires known { (i < max_sessions) × (least_output ≤ length out.old) }
+    requires alive { c.session.live ≡ true }
     ensures { let store = cond c.second second.now first.now in
         Turns c t i zone.now store subs.old subs.new
         m.now out.old out.new result }
@@ -145,8 +145,8 @@ fn deliver(
     out: &mut [u8],
 ) -> Heard
     requires numbered { Numbered is0 is1 is2 i }
-    requires i_lt_max_sessions { (i < max_sessions) × (least_output ≤ length out.old) }
-    requires live_value { c.session.live ≡ true }
+    requires known { (i < max_sessions) × (least_output ≤ length out.old) }
+    requires alive { c.session.live ≡ true }
     ensures { let store = cond c.second second.now first.now in
         Delivers c t i zone.now store m.now out.old out.new
         s0.old s1.old s2.old s3.old
@@ -186,8 +186,8 @@ pub fn hear(
     m: &[u8],
     out: &mut [u8],
 ) -> Heard
-    ensures { let before = memory_now zone.entry first.entry second.entry s0.entry s1.entry s2.entry s3.entry in
-        let after = memory_now zone.entry first.entry second.entry s0.exit s1.exit s2.exit s3.exit in
+    ensures { let before = memory_of zone.now first.now second.now s0.old s1.old s2.old s3.old in
+        let after = memory_of zone.now first.now second.now s0.new s1.new s2.new s3.new in
         Hears c before after time session.0 m.now out.old out.new result }
 {
     let i = session.0;
@@ -244,12 +244,12 @@ pub fn message(
     out: &mut [u8],
 ) -> Outcome
     ensures serves { (
-        let before = memory_now zone.entry first.entry second.entry s0.entry s1.entry s2.entry s3.entry in
-        let after = memory_now zone.entry first.entry second.entry s0.exit s1.exit s2.exit s3.exit in
+        let before = memory_of zone.now first.now second.now s0.old s1.old s2.old s3.old in
+        let after = memory_of zone.now first.now second.now s0.new s1.new s2.new s3.new in
         let call : Bytes → Call = λ bytes. receives time session.0 bytes out.old in
         (small : are_bytes m.now ≡ true)
         → Serves server before (call (record { list = m.now; small = small })) result after out.new) }
-    ensures m_value { are_bytes m.now ≡ true }
+    ensures small { are_bytes m.now ≡ true }
 {
     let i = session.0;
     let c = context_at(server, i);

@@ -1,7 +1,7 @@
 // Demand 3 stated about the calls' own promises; and calls in code, one after the other, of which it is proved.
 #![tactic(auto)]
 
-ghost use Rattle.server.specs.Memory.{memory_now};
+ghost use Rattle.server.specs.Memory.{memory_of};
 ghost use Rattle.views.specs.Plays.{Continues, Plays};
 
 use server::{Name, Outcome, Server, Started, open, start};
@@ -40,8 +40,8 @@ pub fn proceed(
     reply: &mut [u8],
     out: &mut [u8],
 ) -> Ran
-    ensures { let before = memory_now zone.entry first.entry second.entry s0.entry s1.entry s2.entry s3.entry in
-        let after = memory_now zone.entry first.exit second.exit s0.exit s1.exit s2.exit s3.exit in
+    ensures { let before = memory_of zone.now first.old second.old s0.old s1.old s2.old s3.old in
+        let after = memory_of zone.now first.new second.new s0.new s1.new s2.new s3.new in
         Continues server before t m.now bytes.now
         reply.old reply.new out.old out.new result after }
 {
@@ -73,7 +73,7 @@ pub fn play(
     reply: &mut [u8],
     out: &mut [u8],
 ) -> Played
-    ensures { let after = memory_now zone.exit first.exit second.exit s0.exit s1.exit s2.exit s3.exit in
+    ensures { let after = memory_of zone.new first.new second.new s0.new s1.new s2.new s3.new in
         Plays name.now t m.now bytes.now
         reply.old reply.new out.old out.new result after }
 {

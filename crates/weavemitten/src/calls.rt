@@ -3,7 +3,7 @@
 // calls take any words and any octets.
 ghost use Rattle.std.specs.Prelude.{[]};
 ghost use Rattle.service.specs.Call.{Bytes, Call, outcome, opens, closes, receives, edits, ticks};
-ghost use Rattle.server.specs.Memory.{Memory, memory_now};
+ghost use Rattle.server.specs.Memory.{Memory, memory_of};
 ghost use Rattle.server.specs.Answers.{heard_in};
 ghost use Rattle.server.specs.Changes.{decided_by};
 ghost use Rattle.words.specs.Words.{server_of};
@@ -103,8 +103,8 @@ pub extern "C" fn weavemitten_server_message(
     values: &mut Values,
 ) -> u32
     ensures { (
-        let before = memory_now zone.entry first.entry second.entry s0.entry s1.entry s2.entry s3.entry in
-        let after = memory_now zone.entry first.entry second.entry s0.exit s1.exit s2.exit s3.exit in
+        let before = memory_of zone.now first.now second.now s0.old s1.old s2.old s3.old in
+        let after = memory_of zone.now first.now second.now s0.new s1.new s2.new s3.new in
         let call : Bytes → Call = λ bytes. receives time session bytes out.old in
         ReturnsOn m.now values.new words.old words.new after out.new result
         (λ bytes. outcome (held_by words.old before) (call bytes))) }
@@ -135,8 +135,8 @@ pub extern "C" fn weavemitten_server_batch(
     values: &mut Values,
 ) -> u32
     ensures { (
-        let before = memory_now zone.entry first.entry second.entry s0.entry s1.entry s2.entry s3.entry in
-        let after = memory_now zone.entry first.exit second.exit s0.entry s1.entry s2.entry s3.entry in
+        let before = memory_of zone.now first.old second.old s0.now s1.now s2.now s3.now in
+        let after = memory_of zone.now first.new second.new s0.now s1.now s2.now s3.now in
         let call : Bytes → Call = λ lent. edits time lent out.old in
         ReturnsOn bytes.now values.new words.old words.new after out.new result
         (λ lent. outcome (held_by words.old before) (call lent))) }
