@@ -15,9 +15,8 @@ use Rattle.server.specs.declared.answer.Outcome.{Outcome}
 use Rattle.server.specs.declared.starting.Started.{Started}
 use Rattle.server.specs.declared.starting.Started.TheVariants.{Running, Refused}
 use Rattle.views.specs.Runs.{Runs, begun, next}
-use Rattle.views.specs.Plays.{Continues, Begins, Plays}
+use Rattle.views.specs.Plays.{Continues, Begins}
 use Rattle.views.specs.declared.Ran.{Ran}
-use Rattle.views.specs.declared.Played.TheVariants.{Unnamed, Run}
 use Rattle.views.proofs.Theorem.{demand-three}
 
 module _ (s : Server) (before between after : Memory) (t : ℕ) (m b lent output lent' output' : List ℕ) (x y z : Outcome)

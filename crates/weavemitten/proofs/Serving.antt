@@ -15,7 +15,6 @@ use Rattle.service.specs.declared.refusal.Refusal.TheVariants.{NotAName}
 use Rattle.server.specs.declared.state.Server.{Server}
 use Rattle.server.specs.declared.answer.Answer.{Answer}
 use Rattle.server.specs.declared.answer.Outcome.{Outcome}
-use Rattle.server.specs.declared.change.Change.{Change}
 use Rattle.server.specs.declared.change.Change.TheVariants.{Opens, Closes, Ends}
 use Rattle.server.specs.declared.change.Decision.{Decision}
 use Rattle.server.specs.declared.change.Decision.TheVariants.{Takes, Refuses}

@@ -3,10 +3,10 @@
 use Prim.Native.Nat.{ℕ}
 use native.Mathlib.Omega.{arith}
 use mathlib.Core.Bool.{Bool, true, false, cond}
-use mathlib.Core.List.{List, [], ◌∷◌, ◌++◌, map}
+use mathlib.Core.List.{List, [], ◌∷◌, map}
 use mathlib.Core.Option.{Option, none, some}
-use mathlib.Core.Path.{◌≡◌, refl, sym, ap, ◌∙◌}
-use lib.ListN.{length, take, replicate, length-map, length-set, length-replicate}
+use mathlib.Core.Path.{◌≡◌, refl, ap, ◌∙◌}
+use lib.ListN.{length, take, replicate, length-map, length-set}
 use lib.Dec.{eqb}
 use Rattle.dso.specs.declared.judgment.RecordPlaces.{RecordPlaces}
 use Rattle.zone.specs.Lists.{all_of}
@@ -22,46 +22,11 @@ use Rattle.service.specs.declared.refusal.Refusal.TheVariants.{
   MessageTooLong,
   NotAName,
 }
-use Rattle.service.specs.State.{State, Slot, max_sessions, lowest_free, slot_at}
-use Rattle.service.specs.Answer.{
-  Answer,
-  done,
-  opened,
-  ended,
-  sent,
-  not_ours,
-  aborted,
-  reconfirm,
-  refused,
-  answer_number,
-  refusal_number,
-  fault_number,
-}
+use Rattle.service.specs.State.{State, max_sessions, lowest_free, slot_at}
+use Rattle.service.specs.Answer.{Answer, done, opened, ended, sent, reconfirm, refused, answer_number, refusal_number, fault_number}
 use Rattle.service.specs.Checks.{refusal_of}
 use Rattle.service.specs.Message.{Effect, abort, nothing, reply, others, places}
-use Rattle.service.specs.Call.{
-  Bytes,
-  Call,
-  opens,
-  closes,
-  receives,
-  edits,
-  ticks,
-  refuse,
-  brought,
-  lent,
-  passed,
-  outcome,
-  open_outcome,
-  close_outcome,
-  effect_outcome,
-  effect_at,
-  message_outcome,
-  batch_outcome,
-  tick_outcome,
-  push_to,
-  ends_at,
-}
+use Rattle.service.specs.Call.{Bytes, Call, opens, closes, receives, edits, ticks, brought, passed, outcome, open_outcome, close_outcome, effect_outcome, effect_at, message_outcome, batch_outcome, tick_outcome, push_to, ends_at}
 use Rattle.words.specs.Words.{truth, flag}
 use Rattle.words.specs.Values.{eight, values_of}
 use Rattle.weavemitten.specs.Told.{answer_from, has_values}
