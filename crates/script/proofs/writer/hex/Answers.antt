@@ -1,6 +1,5 @@
 -- `script::writer::hex` meets its contract. The loop's invariant: the first `i` octets are written. Assumes nothing.
 use borrow.Author.Rules.{rules}
-use native.Mathlib.Omega.{arith}
 use Rattle.script.proofs.Writing.{hexed-none, hexed-turn, hexed-end, hexed-long}
 use Rattle.script.proofs.writer.hex.Goals as goal
 
@@ -8,9 +7,6 @@ ruleset laws = (hexed-none, hexed-turn, hexed-end, hexed-long, rules)
 
 pub loop-i-init : goal.loop-i-init
 loop-i-init c = search laws
-
-pub digit_octet-requires : goal.digit_octet-requires
-digit_octet-requires c = omega (arith, c.shared_slice_known-in-loop-i-1.given c.loop-i.i)
 
 pub write_octets-requires : goal.write_octets-requires
 write_octets-requires c = search laws

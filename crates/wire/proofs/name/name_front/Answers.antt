@@ -11,9 +11,6 @@ loop-i-init c = search read_none
 pub returns-then-i-ge255 : goal.returns-then-i-ge255
 returns-then-i-ge255 c = read_past _ _ c.loop-i.invariant (omega (arith, length-take max_name c.args.s.now))
 
-pub overflow_cast-n : goal.overflow_cast-n
-overflow_cast-n c = omega (arith, c.shared_slice_known-1.given c.loop-i.i)
-
 pub returns-then-n-eq0 : goal.returns-then-n-eq0
 returns-then-n-eq0 c = read-zero _ _ c.loop-i.invariant (omega arith) (omega arith) (omega arith)
 

@@ -10,15 +10,6 @@ loop-at-init c = search passed_none
 pub returns-then-same_name : goal.returns-then-same_name
 returns-then-same_name c = passed-found _ _ _ c.loop-at.invariant (omega arith) (sym c.if-same_name.true ∙ c.same_name.ensures)
 
-pub overflow_cast-at : goal.overflow_cast-at
-overflow_cast-at c = omega (arith, c.shared_slice_known-in-loop-at-1.given c.loop-at.at)
-
-pub overflow_add-at : goal.overflow_add-at
-overflow_add-at c = omega (arith, c.shared_slice_known-in-loop-at-1.given c.loop-at.at)
-
-pub overflow_add-at-in-loop-at : goal.overflow_add-at-in-loop-at
-overflow_add-at-in-loop-at c = omega (arith, c.shared_slice_known-in-loop-at-1.given c.loop-at.at)
-
 pub loop-at-preserved : goal.loop-at-preserved
 loop-at-preserved c = passed-label _ _ _ c.loop-at.invariant (omega arith) (sym c.if-same_name.false ∙ c.same_name.ensures)
 
