@@ -3,40 +3,41 @@
 #![tactic(auto)]
 
 use dso::{MessageId, ReplyCode, Response};
-use libc::STDOUT_FILENO;
+use std::io;
 
 fn digit(n: u8) -> u8 {
     let d = n % 16;
     if d < 10 { 48 + d } else { 87 + d }
 }
 
-fn print_octet(b: u8) {
-    io::write_all(STDOUT_FILENO, &[digit(b / 16), digit(b)]);
+fn print_octet(rt: &impl Print, b: u8) -> io::Result<()> {
+    rt.write_all(&[digit(b / 16), digit(b)])
 }
 
-fn print_octets(s: &[u8], n: usize) {
+fn print_octets(rt: &impl Print, s: &[u8], n: usize) -> io::Result<()> {
     let mut i = 0;
     while i < s.len() {
         if i < n {
-            print_octet(s[i]);
+            print_octet(rt, s[i])?;
         }
         i += 1;
     }
+    Ok(())
 }
 
-fn show(name: &[u8], id: u16, response: Response) {
+fn show(rt: &impl Print, name: &[u8], id: u16, response: Response) -> io::Result<()> {
     let mut out = [0u8; 64];
     let n = dso::write_response(&mut out, MessageId(id), response);
-    io::write_all(STDOUT_FILENO, name);
-    print_octets(&out, n);
-    io::write_all(STDOUT_FILENO, b"\n");
+    rt.write_all(name)?;
+    print_octets(rt, &out, n)?;
+    rt.write_all(b"\n")
 }
 
-fn main() {
-    show(b"FORMERR ", 1, Response::Error(ReplyCode::FormErr));
-    show(b"SERVFAIL ", 2, Response::Error(ReplyCode::ServFail));
-    show(b"NOTAUTH ", 3, Response::Error(ReplyCode::NotAuth));
-    show(b"DSOTYPENI ", 4, Response::Error(ReplyCode::DsoTypeNi));
-    show(b"Keepalive ", 5, Response::Keepalive(dso::granted()));
-    show(b"SUBSCRIBE ", 65535, Response::Subscribed);
+fn main(rt: HostRuntime) -> io::Result<()> {
+    show(&rt, b"FORMERR ", 1, Response::Error(ReplyCode::FormErr))?;
+    show(&rt, b"SERVFAIL ", 2, Response::Error(ReplyCode::ServFail))?;
+    show(&rt, b"NOTAUTH ", 3, Response::Error(ReplyCode::NotAuth))?;
+    show(&rt, b"DSOTYPENI ", 4, Response::Error(ReplyCode::DsoTypeNi))?;
+    show(&rt, b"Keepalive ", 5, Response::Keepalive(dso::granted()))?;
+    show(&rt, b"SUBSCRIBE ", 65535, Response::Subscribed)
 }
