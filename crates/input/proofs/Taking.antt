@@ -1,16 +1,16 @@
 -- A line that is read on, chunk by chunk.
-use Prim.Native.Nat.{ℕ, suc, ◌≤◌}
-use mathlib.Core.Path.{◌≡◌, refl, sym, ap, ◌∙◌, subst}
+use Prim.Native.Nat.{ℕ}
+use mathlib.Core.Path.{◌≡◌, refl, sym, ap, ◌∙◌}
 use mathlib.Core.Bool.{Bool, true, false, not}
-use mathlib.Core.List.{List, [], ◌∷◌, ◌++◌, append-nil}
+use mathlib.Core.List.{List, [], ◌++◌, append-nil}
 use native.Mathlib.Omega.{arith}
-use lib.ListN.{length, take, drop, length-take, drop_of_length-le}
+use lib.ListN.{take, drop, length-take, drop_of_length-le}
 use lib.Seq.{take_all}
 use Rattle.script.specs.Fields.{until}
 use Rattle.script.specs.Output.{lf}
 use Rattle.script.specs.Stream.{room, kept, Piece, piece_of}
 use Rattle.script.proofs.Cutting.{pieces-joined}
-use Rattle.input.specs.Reading.{idle_with, begun_from, left_of, Resumes, LineReady, LineGoing, ReadsOn, Refills, ReadsLine, NextLine}
+use Rattle.input.specs.Reading.{idle_with, begun_from, left_of, Resumes, LineGoing, ReadsOn, Refills, ReadsLine, NextLine, ReadFails, NextFails}
 use Rattle.input.specs.declared.progress.Progress.{Progress}
 
 no_both : {A : Type 0} {b : Bool} → b ≡ true → b ≡ false → A
@@ -134,6 +134,13 @@ over-read h q input line e =
 pub ready_read : (h : List ℕ) (q : Progress) (input line : List ℕ) → ReadsOn h q input line → q.ready ≡ true → ReadsLine h q input line
 ready_read h q input line o e = record { is-ready = o.is-ready; is-over = λ k. no_both e k }
 
+-- A read failed, and the line stays as it is.
+pub read_fails : (h : List ℕ) (q : Progress) (input line : List ℕ) → ReadsOn h q input line → not q.ready ≡ true → q.more ≡ true
+    → (line' : List ℕ) → line' ≡ line → ReadFails h line'
+read_fails h q input line o t m line' e n =
+    let g = o.is-going n (unready q.ready t) m in
+    record { came = g.came; count = q.held; held = ap (take q.held) e ∙ g.held; ended = g.ended }
+
 -- A line that begins in what is left of the chunk.
 module _ (p : Progress) (input line : List ℕ) (q : Progress) (line' : List ℕ) (b : Progress) (n : b ≡ begun_from p) (s : Resumes b input line q line') where
   piece-begun : record { held = take q.held line'; rest = left_of q input; ended = q.ready } ≡ piece_of [] (left_of p input)
@@ -170,4 +177,17 @@ module _ (p : Progress) (input line : List ℕ) (q : Progress) (line' : List ℕ
               whole = λ m. sym (ap (λ (x : Piece). x.ended) (join z.came)) ∙ z.whole m;
             };
         is-over = y.is-over;
+      }
+
+  pub next_fails : q.ready ≡ false → (line'' : List ℕ) → ReadFails (take q.held line') line'' → NextFails (left_of p input) line''
+  next_fails e line'' f =
+      let going : (piece_of [] (left_of p input)).ended ≡ false = sym (ap (λ (x : Piece). x.ended) piece-begun) ∙ e in
+      let join : (x : List ℕ) → piece_of (take q.held line') x ≡ piece_of [] (left_of p input ++ x) =
+      λ x. ap (λ (l : Piece). piece_of l.held x) piece-begun ∙ pieces-joined [] (left_of p input) x going in
+      let z = f (kept-held [] (left_of p input) (take q.held line') (ap (λ (x : Piece). x.held) piece-begun)) in
+      record {
+        came = z.came;
+        count = z.count;
+        held = z.held ∙ ap (λ (x : Piece). x.held) (join z.came);
+        ended = sym (ap (λ (x : Piece). x.ended) (join z.came)) ∙ z.ended;
       }

@@ -57,3 +57,19 @@ pub record ReadsLine (h : List ℕ) (q : Progress) (input line : List ℕ) : Typ
 pub record NextLine (left : List ℕ) (q : Progress) (input line : List ℕ) : Type 0 where
   pub is-ready : q.ready ≡ true → LineReady [] left q input line
   pub is-over : q.ready ≡ false → q ≡ idle_with false
+
+-- A read failed while the line was going on that begins with h and goes on in `left`. Octets came without its LF, and as much of it
+-- as is kept stands at the front of `line`.
+pub record LineBroken (h left line : List ℕ) : Type 0 where
+  pub came : List ℕ
+  pub count : ℕ
+  pub held : take count line ≡ (piece_of h (left ++ came)).held
+  pub ended : (piece_of h (left ++ came)).ended ≡ false
+
+-- A read failed on the way to the end of the line that is held in h, which is no more than is kept of a line.
+abbrev pub ReadFails : List ℕ → List ℕ → Type 0
+ReadFails h line = kept h ≡ h → LineBroken h [] line
+
+-- A read failed on the way to the end of the next line, which begins with what was left of the chunk.
+abbrev pub NextFails : List ℕ → List ℕ → Type 0
+NextFails left line = LineBroken [] left line
