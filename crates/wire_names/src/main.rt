@@ -8,23 +8,21 @@
 
 mod question;
 
-use input::{Input, Progress, held_line, idle, next_line};
+use input::{held_line, idle, next_line};
 use question::ask;
-use script::Line;
-
-fn take_line(p: Progress, input: &mut Input, line: &mut Line) -> Progress {
-    next_line(p, input, line, b"wire_names: standard input")
-}
+use std::io;
 
 // A proved loop has to end, and nothing says that the input does: the turns are counted down.
-fn main() {
+fn main(rt: HostRuntime) -> io::Result<()> {
+    let mut stdin = rt.stdin();
     let mut input = [0u8; 65536];
     let mut line = [0u8; 32769];
-    let mut p = take_line(idle(true), &mut input, &mut line);
+    let mut p = next_line(idle(true), &mut input, &mut line, &mut stdin)?;
     let mut turns = u64::MAX;
     while turns > 0 && p.ready {
         turns -= 1;
-        ask(held_line(p, &line));
-        p = take_line(p, &mut input, &mut line);
+        ask(&rt, held_line(p, &line))?;
+        p = next_line(p, &mut input, &mut line, &mut stdin)?;
     }
+    Ok(())
 }

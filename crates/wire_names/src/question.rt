@@ -1,13 +1,14 @@
 // The three questions and their answers.
 use script::{Decoded, Number, read_bytes, read_number};
+use std::io;
 use table::part;
 use wire::same_octets;
 
 // Room for a name and more: longer fields are unreadable.
 type Octets = [u8; 300];
 
-fn unreadable() {
-    io::write_all(1, b"?\n");
+fn unreadable(rt: &impl Print) -> io::Result<()> {
+    rt.write_all(b"?\n")
 }
 
 fn is_whole(s: &[u8]) -> bool {
@@ -17,93 +18,85 @@ fn is_whole(s: &[u8]) -> bool {
     n == s.len()
 }
 
-fn write_word(both: bool, yes: bool) {
+fn write_word(rt: &impl Print, both: bool, yes: bool) -> io::Result<()> {
     if !both {
-        io::write_all(1, b"-\n");
+        rt.write_all(b"-\n")
     } else if yes {
-        io::write_all(1, b"yes\n");
+        rt.write_all(b"yes\n")
     } else {
-        io::write_all(1, b"no\n");
+        rt.write_all(b"no\n")
     }
 }
 
-fn read(octets: &[u8], at: usize) {
-    io::write_all(1, b"read\t");
+fn read(rt: &impl Print, octets: &[u8], at: usize) -> io::Result<()> {
+    rt.write_all(b"read\t")?;
     let wire::NameReading::Name(n) = wire::name_at(octets, at) else {
-        io::write_all(1, b"-\n");
-        return;
+        return rt.write_all(b"-\n");
     };
-    io::print_decimal(1, n as u64);
-    io::write_all(1, b"\n");
+    println!(rt; "{n}")
 }
 
-fn same(a: &[u8], b: &[u8]) {
-    io::write_all(1, b"same\t");
+fn same(rt: &impl Print, a: &[u8], b: &[u8]) -> io::Result<()> {
+    rt.write_all(b"same\t")?;
     let both = is_whole(a) && is_whole(b);
-    write_word(both, wire::same_name(a, b));
+    write_word(rt, both, wire::same_name(a, b))
 }
 
-fn within(zone: &[u8], name: &[u8]) {
-    io::write_all(1, b"within\t");
+fn within(rt: &impl Print, zone: &[u8], name: &[u8]) -> io::Result<()> {
+    rt.write_all(b"within\t")?;
     let both = is_whole(zone) && is_whole(name);
-    write_word(both, wire::within(zone, name));
+    write_word(rt, both, wire::within(zone, name))
 }
 
-fn ask_read(place: &[u8], hex: &[u8]) {
+fn ask_read(rt: &impl Print, place: &[u8], hex: &[u8]) -> io::Result<()> {
     let mut space: Octets = [0u8; 300];
     let Decoded::Bytes(n) = read_bytes(hex, &mut space) else {
-        unreadable();
-        return;
+        return unreadable(rt);
     };
     let Number::Value(at) = read_number(place) else {
-        unreadable();
-        return;
+        return unreadable(rt);
     };
-    read(part(&space, 0, n), at as usize);
+    read(rt, part(&space, 0, n), at as usize)
 }
 
-fn ask_two(about: u8, first: &[u8], second: &[u8]) {
+fn ask_two(rt: &impl Print, about: u8, first: &[u8], second: &[u8]) -> io::Result<()> {
     let mut left: Octets = [0u8; 300];
     let Decoded::Bytes(n) = read_bytes(first, &mut left) else {
-        unreadable();
-        return;
+        return unreadable(rt);
     };
     let mut right: Octets = [0u8; 300];
     let Decoded::Bytes(m) = read_bytes(second, &mut right) else {
-        unreadable();
-        return;
+        return unreadable(rt);
     };
     if about == b's' {
-        same(part(&left, 0, n), part(&right, 0, m));
+        same(rt, part(&left, 0, n), part(&right, 0, m))
     } else {
-        within(part(&left, 0, n), part(&right, 0, m));
+        within(rt, part(&left, 0, n), part(&right, 0, m))
     }
 }
 
-pub fn ask(line: &[u8]) {
+pub fn ask(rt: &impl Print, line: &[u8]) -> io::Result<()> {
     let v = script::first(line, b'\t');
     if line.len() <= v {
-        unreadable();
-        return;
+        return unreadable(rt);
     }
     let rest = part(line, v + 1, line.len());
     let f = script::first(rest, b'\t');
     if rest.len() <= f {
-        unreadable();
-        return;
+        return unreadable(rt);
     }
     let second = part(rest, f + 1, rest.len());
-    put(part(line, 0, v), part(rest, 0, f), second);
+    put(rt, part(line, 0, v), part(rest, 0, f), second)
 }
 
-fn put(verb: &[u8], first: &[u8], second: &[u8]) {
+fn put(rt: &impl Print, verb: &[u8], first: &[u8], second: &[u8]) -> io::Result<()> {
     if same_octets(verb, b"read") {
-        ask_read(first, second);
+        ask_read(rt, first, second)
     } else if same_octets(verb, b"same") {
-        ask_two(b's', first, second);
+        ask_two(rt, b's', first, second)
     } else if same_octets(verb, b"within") {
-        ask_two(b'w', first, second);
+        ask_two(rt, b'w', first, second)
     } else {
-        unreadable();
+        unreadable(rt)
     }
 }
