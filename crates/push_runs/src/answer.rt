@@ -1,54 +1,53 @@
 // What is written: a line for each line of input.
-use libc::STDOUT_FILENO;
+use std::io;
 use table::part;
 use zone::BatchFault;
 
 // Room for the longest line.
 const TEXT: usize = 32768;
 
-pub fn unreadable() {
-    io::write_all(STDOUT_FILENO, b"?\n");
+pub fn unreadable(rt: &impl Print) -> io::Result<()> {
+    rt.write_all(b"?\n")
 }
 
-pub fn fresh() {
-    io::write_all(STDOUT_FILENO, b"fresh\t-\n");
+pub fn fresh(rt: &impl Print) -> io::Result<()> {
+    rt.write_all(b"fresh\t-\n")
 }
 
-pub fn unsubscribed() {
-    io::write_all(STDOUT_FILENO, b"unsubscribe\t-\n");
+pub fn unsubscribed(rt: &impl Print) -> io::Result<()> {
+    rt.write_all(b"unsubscribe\t-\n")
 }
 
 // A PUSH in hexadecimal digits, or that there is none, and the end of the line.
-fn print_push(push: &[u8]) {
+fn print_push(rt: &impl Print, push: &[u8]) -> io::Result<()> {
     if push.len() == 0 {
-        io::write_all(STDOUT_FILENO, b"-\n");
-        return;
+        return rt.write_all(b"-\n");
     }
     let mut text = [0u8; TEXT];
     let n = script::put_hex(&mut text, 0, push);
-    io::write_all(STDOUT_FILENO, part(&text, 0, n));
-    io::write_all(STDOUT_FILENO, b"\n");
+    rt.write_all(part(&text, 0, n))?;
+    rt.write_all(b"\n")
 }
 
-pub fn subscribed(push: &[u8]) {
-    io::write_all(STDOUT_FILENO, b"subscribe\t");
-    print_push(push);
+pub fn subscribed(rt: &impl Print, push: &[u8]) -> io::Result<()> {
+    rt.write_all(b"subscribe\t")?;
+    print_push(rt, push)
 }
 
-fn batch(answer: u64, push: &[u8]) {
-    io::write_all(STDOUT_FILENO, b"batch\t");
-    io::print_decimal(STDOUT_FILENO, answer);
-    io::write_all(STDOUT_FILENO, b"\t");
-    print_push(push);
+fn batch(rt: &impl Print, answer: u64, push: &[u8]) -> io::Result<()> {
+    rt.write_all(b"batch\t")?;
+    print!(rt; "{answer}")?;
+    rt.write_all(b"\t")?;
+    print_push(rt, push)
 }
 
 // 01, "The answer numbers": 2 where there is a PUSH, 1 where there is none.
-pub fn stored(push: &[u8]) {
-    batch(if push.len() == 0 { 1 } else { 2 }, push);
+pub fn stored(rt: &impl Print, push: &[u8]) -> io::Result<()> {
+    batch(rt, if push.len() == 0 { 1 } else { 2 }, push)
 }
 
-pub fn refused(fault: BatchFault) {
-    batch(refusal(fault), b"");
+pub fn refused(rt: &impl Print, fault: BatchFault) -> io::Result<()> {
+    batch(rt, refusal(fault), b"")
 }
 
 fn refusal(fault: BatchFault) -> u64 {
