@@ -4,30 +4,17 @@
 
 mod respond;
 
-use input::{Input, Progress, held_line, idle, next_line};
+use input::{Source, held_line, idle, next_line};
 use respond::respond;
-use script::Line;
 use server::{Name, Server, Started, start};
+use std::io;
 use table::part;
-use transcript::Text;
-
-fn take_line(p: Progress, input: &mut Input, line: &mut Line) -> Progress {
-    next_line(p, input, line, b"replay: standard input")
-}
-
-// Writes the lines of an answer and takes the next line of input. Where a write fails, the program stops.
-fn print(text: &Text, n: usize, p: Progress, input: &mut Input, line: &mut Line) -> Progress {
-    if !io::write_all(1, part(text, 0, n)) {
-        os::fail(b"replay: standard output");
-        return idle(false);
-    }
-    take_line(p, input, line)
-}
 
 // Answers each line in turn, with what the lines before it left: `respond` promises the lines that are written for it
 // (`transcript/Responses.response_to`). However the input comes in chunks, what is cut from it (`resume`) is answered as its lines
-// are: `transcript/Responding.replayed-chunks`. What goes through the descriptors no contract can say.
-fn replay(start: Server, zone: &Name) {
+// are: `transcript/Responding.replayed-chunks`. What goes through the streams no contract can say. Where a read or a write fails,
+// the program stops.
+fn replay(rt: &impl Print, source: &mut impl Source, start: Server, zone: &Name) -> io::Result<()> {
     let mut first = [0u8; zone::AREA];
     let mut second = [0u8; zone::AREA];
     let mut s0 = [0u8; session::AREA];
@@ -40,7 +27,7 @@ fn replay(start: Server, zone: &Name) {
     let mut out = [0u8; 65536];
     let mut text = [0u8; 327880];
     let mut server = start;
-    let mut p = take_line(idle(true), &mut input, &mut line);
+    let mut p = next_line(idle(true), &mut input, &mut line, source)?;
     let mut turns = u64::MAX;
     while turns > 0 && p.ready {
         turns -= 1;
@@ -59,14 +46,16 @@ fn replay(start: Server, zone: &Name) {
             &mut text,
         );
         server = r.server;
-        p = print(&text, r.length, p, &mut input, &mut line);
+        rt.write_all(part(&text, 0, r.length))?;
+        p = next_line(p, &mut input, &mut line, source)?;
     }
+    Ok(())
 }
 
-fn main() {
+fn main(rt: HostRuntime) -> io::Result<()> {
     let mut zone = [0u8; 255];
     match start(b"\x04shop\x07example\x00", &mut zone) {
-        Started::Running(server) => replay(server, &zone),
-        Started::Refused(_) => {}
+        Started::Running(server) => replay(&rt, &mut rt.stdin(), server, &zone),
+        Started::Refused(_) => Ok(()),
     }
 }
