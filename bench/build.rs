@@ -25,7 +25,7 @@ fn renamed(archives: &[PathBuf], prefix: &str) -> String {
 /// Links the library of a tree with the shim compiled for its header. Where two builds are compared, every name of theirs begins with
 /// the prefix, and every function begins a cache line, so that functions which are the same stand alike.
 fn link(out: &Path, tree: &Path, library: &Path, prefix: &str, compared: bool) {
-    assert!(library.is_file(), "{} is not there: run `rt staticlib weavemitten` first", library.display());
+    assert!(library.is_file(), "{} is not there: run `rt lib` in crates/weavemitten first", library.display());
     println!("cargo:rerun-if-changed={}", library.display());
     println!("cargo:rerun-if-changed={}", tree.join("include/weavemitten.h").display());
     let object = out.join(format!("{prefix}shim.o"));
@@ -59,7 +59,7 @@ fn main() {
     }
     let out = PathBuf::from(env::var_os("OUT_DIR").expect("cargo sets OUT_DIR"));
     println!("cargo:rustc-link-search=native={}", out.display());
-    let built = "target/staticlib/libweavemitten.a";
+    let built = "crates/weavemitten/out/libweavemitten.a";
     let compared = env::var_os("CARGO_FEATURE_BEFORE").is_some();
     let library = env::var_os("WEAVEMITTEN_STATICLIB").map_or(Path::new("..").join(built), PathBuf::from);
     link(&out, Path::new(".."), &library, "", compared);

@@ -7,9 +7,9 @@ cd "$(dirname "$0")/.."
 rounds=${1:-41}
 bench=bench/target/release/bench
 work=target/bench
-run() { printf '+ %s\n' "$*"; "$@"; }
+. tests/lib/library.sh
 
-run rt staticlib weavemitten
+library
 run cargo build --quiet --release --offline -j1 --manifest-path bench/Cargo.toml
 mkdir -p "$work"
 

@@ -18,12 +18,12 @@ case $#:${1-} in
     *) usage ;;
 esac
 
-run rt check replay
+replay_program
 programs compare-service
 
 # all SEED CALLS: the same runs through both programs, and runs that only the C library can be asked for, under the sanitizers.
 all() {
-    run "$reference" compare --language replay --seed "$1" --calls "$2" -- target/bin/replay
+    run "$reference" compare --language replay --seed "$1" --calls "$2" -- "$replay"
     run "$reference" compare --language replay --seed "$1" --calls "$2" -- target/compare-service
     run "$reference" compare --language service --seed "$1" --calls "$(($2 / 4))" -- target/compare-service-checked service
 }

@@ -5,11 +5,10 @@
 set -eu
 cd "$(dirname "$0")/.."
 [ $# -gt 0 ] || set -- 1 2 3 4
-run() { printf '+ %s\n' "$*"; "$@"; }
+. tests/lib/library.sh
 run cargo build --quiet --release -j1 --manifest-path tests/reference/Cargo.toml
 reference=tests/reference/target/release/reference
-run rt check replay
-replay=target/bin/replay
+replay_program
 dir=target/replay
 mkdir -p "$dir"
 
