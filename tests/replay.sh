@@ -90,8 +90,17 @@ for seed in "$@"; do
   edge "random script, seed $seed"
 done
 
+# ends_with ERROR: the last run ended with status 1 and said that error.
+ends_with() {
+  cat "$dir/error"
+  grep -q "^Error: .*$1" "$dir/error" && [ "$status" -eq 1 ]
+}
 printf '+ %s >/dev/full\n' "$replay"
-"$replay" <examples/first.script >/dev/full 2>"$dir/error"
-cat "$dir/error"
-grep -q '^replay: standard output: ' "$dir/error"
+status=0
+"$replay" <examples/first.script >/dev/full 2>"$dir/error" || status=$?
+ends_with StorageFull
+printf '+ %s <%s\n' "$replay" "$dir"
+status=0
+"$replay" <"$dir" >"$dir/out" 2>"$dir/error" || status=$?
+ends_with IsADirectory
 echo "replay: all as expected"
