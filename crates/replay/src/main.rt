@@ -4,16 +4,31 @@
 
 mod respond;
 
-use input::{Source, held_line, idle, next_line};
+use input::{Input, Progress, Source, held_line, idle, next_line};
 use respond::respond;
+use script::Line;
 use server::{Name, Server, Started, start};
 use std::io;
 use table::part;
+use transcript::Text;
+
+// Writes the lines of an answer and takes the next line of input. Where a write fails, the program stops.
+fn print(
+    rt: &impl Print,
+    text: &Text,
+    n: usize,
+    p: Progress,
+    input: &mut Input,
+    line: &mut Line,
+    source: &mut impl Source,
+) -> io::Result<Progress> {
+    rt.write_all(part(text, 0, n))?;
+    next_line(p, input, line, source)
+}
 
 // Answers each line in turn, with what the lines before it left: `respond` promises the lines that are written for it
 // (`transcript/Responses.response_to`). However the input comes in chunks, what is cut from it (`resume`) is answered as its lines
-// are: `transcript/Responding.replayed-chunks`. What goes through the streams no contract can say. Where a read or a write fails,
-// the program stops.
+// are: `transcript/Responding.replayed-chunks`. What goes through the streams no contract can say.
 fn replay(rt: &impl Print, source: &mut impl Source, start: Server, zone: &Name) -> io::Result<()> {
     let mut first = [0u8; zone::AREA];
     let mut second = [0u8; zone::AREA];
@@ -46,8 +61,7 @@ fn replay(rt: &impl Print, source: &mut impl Source, start: Server, zone: &Name)
             &mut text,
         );
         server = r.server;
-        rt.write_all(part(&text, 0, r.length))?;
-        p = next_line(p, &mut input, &mut line, source)?;
+        p = print(rt, &text, r.length, p, &mut input, &mut line, source)?;
     }
     Ok(())
 }
