@@ -97,8 +97,8 @@ fn read_on<S: Source>(
 }
 
 // Takes the next line: from the chunk that was read last, and from the next ones where it goes on. An error is one that a read of
-// the source gave, and none comes where the chunk has the line's end. What came of the line then stands in `line`, and the chunk is
-// used up.
+// the source gave, and none comes where the chunk has the line's end. What came of the line then stands in `line`, and of what `input`
+// holds nothing is promised.
 pub fn next_line<S: Source>(
     p: Progress,
     input: &mut Input,

@@ -217,8 +217,8 @@ pub record Bench : Type 0 where
   pub idle-stays : (outcome ready (ticks 30999)).answer ≡ stays
   pub idle-ends : (outcome ready (ticks 31000)).answer ≡ ends
   pub idle-freed : slot_at (outcome ready (ticks 31000)).next 0 ≡ free
-  -- 6. "SRV and TXT leave, nothing remains: one all_types notice." Its octets too: a PUSH, type 255, TTL 0xFFFFFFFE, RDLEN 0.
-  pub all_types : told0 (service ∷ text ∷ []) (deletes (service ∷ text ∷ [])) ≡ some ((removal (all_types host class_in) ∷ []) ∷ [])
+  -- 6. "SRV and TXT leave, nothing remains: one all-types notice." Its octets too: a PUSH, type 255, TTL 0xFFFFFFFE, RDLEN 0.
+  pub all-types : told0 (service ∷ text ∷ []) (deletes (service ∷ text ∷ [])) ≡ some ((removal (all_types host class_in) ∷ []) ∷ [])
   pub all-types-octets : sent0 (edited0 (service ∷ text ∷ []) (deletes (service ∷ text ∷ [])))
       ≡ octets 44 0x002a0000300000000000000000000041001a01610473686f70076578616d706c650000ff0001fffffffe0000
   -- 7. "The same with A kept: two RRset notices."
@@ -311,7 +311,7 @@ bench =
       idle-stays = refl;
       idle-ends = refl;
       idle-freed = refl;
-      all_types = refl;
+      all-types = refl;
       all-types-octets = refl;
       two-rrsets = refl;
       two-singles = refl;
