@@ -32,6 +32,7 @@ area_at i m = get_or (m.s0 ∷ m.s1 ∷ m.s2 ∷ m.s3 ∷ []) i []
 abbrev pub with_areas : List ℕ → List ℕ → List ℕ → List ℕ → Memory → Memory
 with_areas a b c d m = record { zone = m.zone; first = m.first; second = m.second; s0 = a; s1 = b; s2 = c; s3 = d }
 
+-- What is lent, as it is before a call (`x.old`, and `x.now` of a `&`) or behind it (`x.new`).
 abbrev pub memory_of : List ℕ → List ℕ → List ℕ → List ℕ → List ℕ → List ℕ → List ℕ → Memory
 memory_of zone first second a b c d =
     record { zone = zone; first = first; second = second; s0 = a; s1 = b; s2 = c; s3 = d }
