@@ -161,33 +161,37 @@ module _ (p : Progress) (input line : List ℕ) (q : Progress) (line' : List ℕ
         is-over = λ k. no_both e k;
       }
 
+  -- Where the chunk has no end of the line, it goes on with what comes behind the chunk.
+  going : q.ready ≡ false → (piece_of [] (left_of p input)).ended ≡ false
+  going e = sym (ap (λ (x : Piece). x.ended) piece-begun) ∙ e
+
+  goes-on : q.ready ≡ false → (x : List ℕ) → piece_of (take q.held line') x ≡ piece_of [] (left_of p input ++ x)
+  goes-on e x = ap (λ (l : Piece). piece_of l.held x) piece-begun ∙ pieces-joined [] (left_of p input) x (going e)
+
+  kept-begun : kept (take q.held line') ≡ take q.held line'
+  kept-begun = kept-held [] (left_of p input) (take q.held line') (ap (λ (x : Piece). x.held) piece-begun)
+
   pub read_next : q.ready ≡ false → (r : Progress) (input' line'' : List ℕ) → ReadsLine (take q.held line') r input' line''
       → NextLine (left_of p input) r input' line''
   read_next e r input' line'' y =
-      let going : (piece_of [] (left_of p input)).ended ≡ false = sym (ap (λ (x : Piece). x.ended) piece-begun) ∙ e in
-      let join : (x : List ℕ) → piece_of (take q.held line') x ≡ piece_of [] (left_of p input ++ x) =
-      λ x. ap (λ (l : Piece). piece_of l.held x) piece-begun ∙ pieces-joined [] (left_of p input) x going in
       record {
-        is-ready = λ k. let z = y.is-ready (kept-held [] (left_of p input) (take q.held line') (ap (λ (x : Piece). x.held) piece-begun)) k in
+        is-ready = λ k. let z = y.is-ready kept-begun k in
             record {
               came = z.came;
-              unread = λ m. no_both m going;
-              held = z.held ∙ ap (λ (x : Piece). x.held) (join z.came);
-              rest = z.rest ∙ ap (λ (x : Piece). x.rest) (join z.came);
-              whole = λ m. sym (ap (λ (x : Piece). x.ended) (join z.came)) ∙ z.whole m;
+              unread = λ m. no_both m (going e);
+              held = z.held ∙ ap (λ (x : Piece). x.held) (goes-on e z.came);
+              rest = z.rest ∙ ap (λ (x : Piece). x.rest) (goes-on e z.came);
+              whole = λ m. sym (ap (λ (x : Piece). x.ended) (goes-on e z.came)) ∙ z.whole m;
             };
         is-over = y.is-over;
       }
 
   pub next_fails : q.ready ≡ false → (line'' : List ℕ) → ReadFails (take q.held line') line'' → NextFails (left_of p input) line''
   next_fails e line'' f =
-      let going : (piece_of [] (left_of p input)).ended ≡ false = sym (ap (λ (x : Piece). x.ended) piece-begun) ∙ e in
-      let join : (x : List ℕ) → piece_of (take q.held line') x ≡ piece_of [] (left_of p input ++ x) =
-      λ x. ap (λ (l : Piece). piece_of l.held x) piece-begun ∙ pieces-joined [] (left_of p input) x going in
-      let z = f (kept-held [] (left_of p input) (take q.held line') (ap (λ (x : Piece). x.held) piece-begun)) in
+      let z = f kept-begun in
       record {
         came = z.came;
         count = z.count;
-        held = z.held ∙ ap (λ (x : Piece). x.held) (join z.came);
-        ended = sym (ap (λ (x : Piece). x.ended) (join z.came)) ∙ z.ended;
+        held = z.held ∙ ap (λ (x : Piece). x.held) (goes-on e z.came);
+        ended = sym (ap (λ (x : Piece). x.ended) (goes-on e z.came)) ∙ z.ended;
       }

@@ -4,7 +4,8 @@
 mod progress;
 mod source;
 
-ghost use Rattle.std.specs.Prelude.{◌≡◌, take, IfOk, IfErr, OnErr};
+ghost use Rattle.std.specs.Prelude.{◌≡◌, true, [], take, IfOk, IfErr, OnErr};
+ghost use Rattle.script.specs.Stream.{piece_of};
 ghost use Rattle.input.specs.Reading.{left_of, Refills, ReadsOn, ReadsLine, NextLine, ReadFails, NextFails};
 
 use progress::begun;
@@ -96,8 +97,8 @@ fn read_on<S: Source>(
     Ok(idle(false))
 }
 
-// Takes the next line: from the chunk that was read last, and from the next ones where it goes on. An error is one that a read of
-// the source gave, and none comes where the chunk has the line's end. What came of the line then stands in `line`, and of what `input`
+// Takes the next line: from the chunk that was read last, and from the next ones where it goes on. Where the chunk has the line's end,
+// the line is there. An error is one that a read of the source gave: what came of the line then stands in `line`, and of what `input`
 // holds nothing is promised.
 pub fn next_line<S: Source>(
     p: Progress,
@@ -106,6 +107,7 @@ pub fn next_line<S: Source>(
     source: &mut S,
 ) -> io::Result<Progress>
     ensures ok { IfOk result (λ q. NextLine (left_of p input.old) q input.new line.new) }
+    ensures there { IfOk result (λ q. (piece_of [] (left_of p input.old)).ended ≡ true → q.ready ≡ true) }
     ensures err { OnErr result (NextFails (left_of p input.old) line.new) }
     ensures error { IfErr result S.fails }
 {
