@@ -1,4 +1,4 @@
--- `table::shift` meets its contract. The loop's invariant: the first `i` octets are moved. Assumes nothing.
+-- `table::shift` meets its contract. Assumes nothing.
 use borrow.Author.Rules.{rules}
 use Rattle.table.proofs.Blocks.{moved_none, moved-turn, moved_all}
 use Rattle.table.proofs.shift.Goals as goal

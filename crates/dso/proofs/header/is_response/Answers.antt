@@ -1,3 +1,4 @@
+-- `dso::header::is_response` meets its contract. Assumes nothing.
 use lib.Dec.{leb}
 use mathlib.Core.Path.{ap}
 use Rattle.dso.specs.Header.{is_response, flags}

@@ -1,3 +1,4 @@
+-- `dso::header::no_records` meets its contract. Assumes nothing.
 use Rattle.dso.specs.Header.{no_records}
 use Rattle.dso.proofs.Reading.{is, isnt, same}
 use Rattle.dso.proofs.header.no_records.Goals as goal

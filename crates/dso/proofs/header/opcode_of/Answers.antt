@@ -1,3 +1,4 @@
+-- `dso::header::opcode_of` meets its contract. Assumes nothing.
 use Prim.Native.Nat.{ℕ, ◌/◌, ◌%◌}
 use mathlib.Core.Path.{ap}
 use Rattle.dso.specs.Header.{opcode, flags}

@@ -1,4 +1,4 @@
--- `dso::tlv::tlvs_fill` meets its contract. The invariant: TLVs fill the message from where it began exactly if they do from here on.
+-- `dso::tlv::tlvs_fill` meets its contract. Assumes nothing.
 use native.Mathlib.Omega.{arith}
 use mathlib.Core.Path.{refl, sym, ◌∙◌}
 use Rattle.dso.proofs.Tlvs.{filled-end, filled-cut, filled_next, next-after, next-in}

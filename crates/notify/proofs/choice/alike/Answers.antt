@@ -1,4 +1,4 @@
--- `notify::choice::alike` meets its contract. The loop's invariant: none of the first `i` marked records tells the two apart. Assumes nothing.
+-- `notify::choice::alike` meets its contract. Assumes nothing.
 use Rattle.notify.proofs.Marked.{alike_same, agreed-none, agreed-all, agreed-not, agreed-turn}
 use Rattle.notify.proofs.choice.alike.Goals as goal
 

@@ -1,4 +1,4 @@
--- `notify::choice::choose` meets its contract. The loop's invariant: the first `i` marks are filled in. Assumes nothing.
+-- `notify::choice::choose` meets its contract. Assumes nothing.
 use mathlib.Core.Path.{refl}
 use Rattle.notify.proofs.Marked.{filling-none, filling-turn}
 use Rattle.notify.proofs.Choices.{choosing-all}

@@ -1,4 +1,4 @@
--- `notify::marks::arrived` meets its contract. The loop's invariant: the first `i` records are marked as they should be. Assumes nothing.
+-- `notify::marks::arrived` meets its contract. Assumes nothing.
 use mathlib.Core.Path.{refl}
 use Rattle.notify.proofs.Marked.{filling-none, unless-turn, unless-all}
 use Rattle.notify.proofs.marks.arrived.Goals as goal

@@ -1,4 +1,4 @@
--- `notify::marks::matched` meets its contract. The loop's invariant: the first `i` records are marked as they should be. Assumes nothing.
+-- `notify::marks::matched` meets its contract. Assumes nothing.
 use mathlib.Core.Path.{refl}
 use Rattle.notify.proofs.Marked.{filling-none, filling-turn, each_all}
 use Rattle.notify.proofs.marks.matched.Goals as goal

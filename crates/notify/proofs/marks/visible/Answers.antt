@@ -1,4 +1,4 @@
--- `notify::marks::visible` meets its contract. The loop's invariant: the first `i` records are marked as they should be. Assumes nothing.
+-- `notify::marks::visible` meets its contract. Assumes nothing.
 use mathlib.Core.Path.{refl}
 use Rattle.notify.proofs.Marked.{filling-none, filling-turn, among-all}
 use Rattle.notify.proofs.marks.visible.Goals as goal

@@ -1,4 +1,4 @@
--- `notify::message::is_first` meets its contract. The loop's invariant: no removal of the first `j` records covers record `i`. Assumes nothing.
+-- `notify::message::is_first` meets its contract. Assumes nothing.
 use Rattle.notify.proofs.Heads.{first-none, first-all, first-not, first-turn}
 use Rattle.notify.proofs.message.is_first.Goals as goal
 

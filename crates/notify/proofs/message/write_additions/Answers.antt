@@ -1,4 +1,4 @@
--- `notify::message::write_additions` meets its contract. The loop's invariant: what is left to write from `end` on makes up the whole. Assumes nothing.
+-- `notify::message::write_additions` meets its contract. Assumes nothing.
 use native.Mathlib.Omega.{arith}
 use Rattle.notify.proofs.Heads.{block-short}
 use Rattle.notify.proofs.Sending.{adding-none, adding-long, adding-turn, adding-all}

@@ -1,4 +1,4 @@
--- `notify::message::write_removals` meets its contract. The loop's invariant: what is left to write from `end` on makes up the whole. Assumes nothing.
+-- `notify::message::write_removals` meets its contract. Assumes nothing.
 use native.Mathlib.Omega.{arith}
 use Rattle.notify.proofs.Sending.{removing-none, removing-long, removing-turn, removing-all}
 use Rattle.notify.proofs.message.write_removals.Goals as goal

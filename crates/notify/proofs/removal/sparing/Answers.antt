@@ -1,4 +1,4 @@
--- `notify::removal::sparing` meets its contract. The loop's invariant: no kind from `kind` on spares b's record. Assumes nothing.
+-- `notify::removal::sparing` meets its contract. Assumes nothing.
 use Rattle.notify.proofs.Removals.{narrowing_none, narrowing-spared, narrowing-turn, narrowing-end}
 use Rattle.notify.proofs.removal.sparing.Goals as goal
 

@@ -1,4 +1,4 @@
--- `notify::removal::widest` meets its contract. The loop's invariant: `kind` is the widest that spares the first `i` records. Assumes nothing.
+-- `notify::removal::widest` meets its contract. Assumes nothing.
 use Rattle.notify.proofs.Removals.{widest-none, widest-turn, widest-end}
 use Rattle.notify.proofs.removal.widest.Goals as goal
 

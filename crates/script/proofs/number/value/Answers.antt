@@ -1,4 +1,4 @@
--- `script::number::value` meets its contract. The loop's invariant: the first `i` digits stand for `x`. Assumes nothing.
+-- `script::number::value` meets its contract. Assumes nothing.
 use borrow.Author.Rules.{rules}
 use Rattle.script.proofs.Numbers.{summed-none, summed-end, summed-other, summed-large, summed_turn}
 use Rattle.script.proofs.number.value.Goals as goal

@@ -1,4 +1,4 @@
--- `script::reader::decode` meets its contract. The loop's invariant: `i` octets are decoded. Assumes nothing.
+-- `script::reader::decode` meets its contract. Assumes nothing.
 use borrow.Author.Rules.{rules}
 use Rattle.script.proofs.Bytes.{decoding-none, decoding-end, decoding-high, decoding-low, decoding-turn, hex-odd}
 use Rattle.script.proofs.reader.decode.Goals as goal

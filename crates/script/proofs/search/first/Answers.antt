@@ -1,4 +1,4 @@
--- `script::search::first` meets its contract. The loop's invariant: the octet does not stand before `i`. Assumes nothing.
+-- `script::search::first` meets its contract. Assumes nothing.
 use borrow.Author.Rules.{rules}
 use Rattle.script.proofs.Searching.{sought-none, sought-end, sought-found, sought-turn}
 use Rattle.script.proofs.search.first.Goals as goal

@@ -1,4 +1,4 @@
--- `script::writer::hex` meets its contract. The loop's invariant: the first `i` octets are written. Assumes nothing.
+-- `script::writer::hex` meets its contract. Assumes nothing.
 use borrow.Author.Rules.{rules}
 use Rattle.script.proofs.Writing.{hexed-none, hexed-turn, hexed-end, hexed-long}
 use Rattle.script.proofs.writer.hex.Goals as goal

@@ -1,4 +1,4 @@
--- `script::writer::put_number` meets its contract. The loop's invariant: the digits behind `i` are written, and `rest` is left. Assumes nothing.
+-- `script::writer::put_number` meets its contract. Assumes nothing.
 use borrow.Author.Rules.{rules}
 use native.Mathlib.Omega.{arith}
 use lib.ListN.{length-set}

@@ -1,4 +1,4 @@
--- `server::places::lowest_free` meets its contract. The loop's invariant: the first `i` places are taken. Assumes nothing.
+-- `server::places::lowest_free` meets its contract. Assumes nothing.
 use native.Mathlib.Omega.{arith}
 use Rattle.server.proofs.Vacancies.{busy-none, busy-found, busy-turn, busy-all}
 use Rattle.server.proofs.places.lowest_free.Goals as goal

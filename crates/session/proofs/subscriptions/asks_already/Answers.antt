@@ -1,4 +1,4 @@
--- `session::subscriptions::asks_already` meets its contract. The loop's invariant: none of the first `i` passes the test. Assumes nothing.
+-- `session::subscriptions::asks_already` meets its contract. Assumes nothing.
 use Rattle.session.specs.Subscriptions.{asks_already}
 use Rattle.session.proofs.Table.{passed_none, passed-end, passed-found, passed-turn}
 use Rattle.session.proofs.subscriptions.asks_already.Goals as goal

@@ -1,4 +1,4 @@
--- `session::subscriptions::remove` meets its contract. The loop's invariant: the first `i` keep their place, and of those behind them the
+-- `session::subscriptions::remove` meets its contract. Assumes nothing.
 use native.Mathlib.Omega.{arith}
 use Rattle.session.proofs.Changes.{swept_none, swept_all, swept_kept, swept-gone}
 use Rattle.session.proofs.subscriptions.remove.Goals as goal

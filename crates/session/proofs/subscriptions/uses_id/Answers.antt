@@ -1,4 +1,4 @@
--- `session::subscriptions::uses_id` meets its contract. The loop's invariant: none of the first `i` passes the test. Assumes nothing.
+-- `session::subscriptions::uses_id` meets its contract. Assumes nothing.
 use Rattle.session.specs.Subscriptions.{uses_id}
 use Rattle.session.proofs.Table.{passed_none, passed-end, passed-found, passed-turn}
 use Rattle.session.proofs.subscriptions.uses_id.Goals as goal

@@ -1,4 +1,4 @@
--- `wire::name::alike_parts` meets its contract. The loop's invariant: the lowered octets before `i` are equal. Assumes nothing.
+-- `wire::name::alike_parts` meets its contract. Assumes nothing.
 use Prim.Native.Nat.{◌+◌, ◌-◌}
 use mathlib.Core.Path.{sym, ◌∙◌}
 use native.Mathlib.Omega.{arith}

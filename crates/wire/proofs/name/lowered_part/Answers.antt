@@ -1,4 +1,4 @@
--- `wire::name::lowered_part` meets its contract. The loop's invariant: `same` says of the lowered octets before `i` whether they are
+-- `wire::name::lowered_part` meets its contract. Assumes nothing.
 use Rattle.wire.specs.Name.{lower}
 use Rattle.wire.proofs.Loops.{lower-zero, mapped-none, mapped-octet, alike_end}
 use Rattle.wire.proofs.name.lowered_part.Goals as goal

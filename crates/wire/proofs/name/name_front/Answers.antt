@@ -1,4 +1,4 @@
--- `wire::name::name_front` meets its contract. The loop's invariant: the octets before `i` are whole labels. Assumes nothing.
+-- `wire::name::name_front` meets its contract. Assumes nothing.
 use native.Mathlib.Omega.{arith}
 use lib.ListN.{length-take}
 use Rattle.wire.specs.Name.{max_name}

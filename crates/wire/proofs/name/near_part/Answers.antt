@@ -1,4 +1,4 @@
--- `wire::name::near_part` meets its contract. The loop's invariant: `same` says of what is left of the octets before `i` whether they are
+-- `wire::name::near_part` meets its contract. Assumes nothing.
 use Rattle.wire.specs.Case.{caseless}
 use Rattle.wire.proofs.Loops.{caseless-zero, mapped-none, mapped-octet, mapped_end}
 use Rattle.wire.proofs.name.near_part.Goals as goal

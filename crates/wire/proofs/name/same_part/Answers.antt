@@ -1,4 +1,4 @@
--- `wire::name::same_part` meets its contract. The loop's invariant: `same` says of the octets before `i` whether they are equal.
+-- `wire::name::same_part` meets its contract. Assumes nothing.
 use Rattle.wire.proofs.Loops.{compared-none, compared-octet, compared-end}
 use Rattle.wire.proofs.name.same_part.Goals as goal
 

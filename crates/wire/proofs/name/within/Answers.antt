@@ -1,4 +1,4 @@
--- `wire::name::within` meets its contract. The loop's invariant: no label boundary before `at` has the zone. Assumes nothing.
+-- `wire::name::within` meets its contract. Assumes nothing.
 use mathlib.Core.Path.{sym, ◌∙◌}
 use native.Mathlib.Omega.{arith}
 use Rattle.wire.proofs.Loops.{passed_none, passed-end, passed-found, passed-label}

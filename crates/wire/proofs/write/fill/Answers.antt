@@ -1,4 +1,4 @@
--- `wire::write::fill` meets its contract. The loop's invariant: the first `i` octets are written. Assumes nothing.
+-- `wire::write::fill` meets its contract. Assumes nothing.
 use Prim.Native.Nat.{ℕ}
 use mathlib.Core.List.{List}
 use mathlib.Core.Path.{◌≡◌, refl, ap, ◌∙◌}

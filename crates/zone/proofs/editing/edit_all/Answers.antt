@@ -1,4 +1,4 @@
--- `zone::editing::edit_all` meets its contract. The loop's invariant: what is left of the batch gives the outcome. Assumes nothing.
+-- `zone::editing::edit_all` meets its contract. Assumes nothing.
 use Rattle.zone.proofs.Steps.{midway-none, midway_end, midway-over, midway-stop, midway-turn}
 use Rattle.zone.proofs.editing.edit_all.Goals as goal
 

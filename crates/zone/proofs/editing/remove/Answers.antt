@@ -1,4 +1,4 @@
--- `zone::editing::remove` meets its contract. The loop's invariant: the records from `i` on are looked at. Assumes nothing.
+-- `zone::editing::remove` meets its contract. Assumes nothing.
 use Rattle.zone.proofs.Updates.{dropped-none, dropped-turn, dropped-all}
 use Rattle.zone.proofs.editing.remove.Goals as goal
 

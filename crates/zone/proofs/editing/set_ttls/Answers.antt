@@ -1,4 +1,4 @@
--- `zone::editing::set_ttls` meets its contract. The loop's invariant: the records before `i` are done. Assumes nothing.
+-- `zone::editing::set_ttls` meets its contract. Assumes nothing.
 use Rattle.zone.proofs.Updates.{timed-turn, timed-all}
 use Rattle.zone.proofs.Applies.{timed-from}
 use Rattle.zone.proofs.editing.set_ttls.Goals as goal

@@ -1,4 +1,4 @@
--- `zone::records::find` meets its contract. The loop's invariant: no record before `i` has the key. Assumes nothing.
+-- `zone::records::find` meets its contract. Assumes nothing.
 use Rattle.zone.proofs.Memory.{searched-none, searched-end, searched-found, searched-turn}
 use Rattle.zone.proofs.records.find.Goals as goal
 
