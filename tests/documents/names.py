@@ -49,7 +49,7 @@ def missing(quoted, specs, code):
     m = re.fullmatch(r"(\w+)::([\w:]+)(?:\(.*\))?", quoted)
     if m and m[1] in code:
         item = m[2].split("::")[-1]
-        return "" if re.search(rf"\b(fn|struct|enum|type|const|mod)\s+{item}\b", code[m[1]]) else "no such item"
+        return "" if re.search(rf"\b(fn|struct|enum|trait|type|const|mod)\s+{item}\b", code[m[1]]) else "no such item"
     if re.fullmatch(r"(crates|tests|bench|examples|include|docs)/[\w./-]+", quoted) and not re.search(r"CRATE|NAME|/(target|out)/", quoted):
         return "" if os.path.exists(quoted) else "no such path"
     return None
