@@ -14,5 +14,5 @@ mod tlv;
 
 pub use judging::judge;
 pub use judgment::{Judged, Judgment, MessageId, Place, QuestionPlaces, RecordPlaces, ReplyCode};
-pub use matching::{asks_for, is_name};
+pub use matching::{Question, asks_for, is_name};
 pub use response::{Response, Timeouts, granted, write_header, write_response, write_tlv};

@@ -6,6 +6,14 @@ ghost use Rattle.dso.specs.Match.{asks_class, asks_type, asks_for};
 use crate::number::{ANY, CNAME};
 use wire::{NameReading, name_at};
 
+// What a SUBSCRIBE asks for, and what a resource record answers to: a name, a type and a class.
+#[derive(Clone, Copy)]
+pub struct Question<'a> {
+    pub name: &'a [u8],
+    pub rrtype: u16,
+    pub rrclass: u16,
+}
+
 fn asks_class(qclass: u16, class: u16) -> bool
     ensures { result ≡ asks_class qclass class }
 {

@@ -6,6 +6,8 @@ use Rattle.table.specs.Blocks.{blocks, text_at}
 use Rattle.zone.specs.Record.{Record}
 use Rattle.zone.specs.Match.{Subscription}
 use Rattle.session.specs.Subscriptions.{max_subscriptions, is_full}
+use Rattle.session.specs.declared.subscriptions.Subscriptions.{Subscriptions}
+use Rattle.dso.specs.declared.matching.Question.{Question}
 
 -- A block: the message ID, the type and the class, two octets each; the length of the name; the name.
 abbrev pub block_size : ℕ
@@ -31,6 +33,10 @@ sub_octets s =
 unfoldable pub subscriptions_of : ℕ → List ℕ → List Subscription
 subscriptions_of count area = map sub_of (blocks block_size (min count max_subscriptions) area)
 
+-- The subscriptions that the code passes on.
+abbrev pub subscriptions_in : Subscriptions → List Subscription
+subscriptions_in s = subscriptions_of s.count s.area.now
+
 -- One more at the end; nothing changes where there are as many as there may be, or where the name is too long to be one.
 unfoldable pub appended : Subscription → List Subscription → List Subscription
 appended s subs = cond (is_full subs || ltb max_name (length s.owner)) subs (subs ++ (s ∷ []))
@@ -41,3 +47,9 @@ subscription id owner rrtype rrclass = record { id = id; owner = owner; rrtype =
 
 abbrev pub record_asked : List ℕ → ℕ → ℕ → Record
 record_asked owner rrtype rrclass = record { owner = owner; rrtype = rrtype; rrclass = rrclass; ttl = 0; rdata = [] }
+
+abbrev pub subscription_for : ℕ → Question → Subscription
+subscription_for id q = subscription id q.name.now q.rrtype q.rrclass
+
+abbrev pub record_for : Question → Record
+record_for q = record_asked q.name.now q.rrtype q.rrclass

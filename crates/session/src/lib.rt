@@ -6,5 +6,5 @@ mod subscriptions;
 
 pub use clocks::{Clocks, expired, granted, restart, restarted, started};
 pub use subscriptions::{
-    AREA, Area, SUBSCRIPTIONS, append, asks_already, is_full, remove, uses_id, wanted,
+    AREA, Area, SUBSCRIPTIONS, Subscriptions, append, asks_already, is_full, remove, uses_id, wanted,
 };

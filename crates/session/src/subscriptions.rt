@@ -21,6 +21,13 @@ pub const AREA: usize = SUBSCRIPTIONS * BLOCK;
 // A session's lent memory.
 pub type Area = [u8; AREA];
 
+// A session's subscriptions: lent memory, and how many stand in it. A count over the limit counts as the limit.
+#[derive(Clone, Copy)]
+pub struct Subscriptions<'a> {
+    pub area: &'a Area,
+    pub count: usize,
+}
+
 // Where a block has its parts.
 const ID: usize = 0;
 

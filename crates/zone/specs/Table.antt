@@ -9,6 +9,8 @@ use Rattle.table.specs.Blocks.{blocks, text_at}
 use Rattle.zone.specs.Record.{Record, Key, key_of, same_key}
 use Rattle.zone.specs.Batch.{max_records, max_rdata}
 use Rattle.zone.specs.declared.records.Found.{Found}
+use Rattle.zone.specs.declared.records.Store.{Store}
+use Rattle.zone.specs.declared.records.RecordKey.{RecordKey}
 use Rattle.zone.specs.declared.records.Found.TheVariants.{At, Nothing}
 
 -- A block: the length of the owner and of the RDATA, an octet each; type, class and TTL; room for the longest name and
@@ -43,12 +45,19 @@ block_at area i = part area (i * block_size) block_size
 unfoldable pub records_of : ℕ → List ℕ → List Record
 records_of count area = map rec_of (blocks block_size (min count max_records) area)
 
+-- The store that the code passes on.
+abbrev pub records_in : Store → List Record
+records_in s = records_of s.count s.area.now
+
 -- A record and a key by their parts.
 abbrev pub record_from : List ℕ → ℕ → ℕ → ℕ → List ℕ → Record
 record_from name t c ttl rdata = record { owner = name; rrtype = t; rrclass = c; ttl = ttl; rdata = rdata }
 
 abbrev pub key_from : List ℕ → ℕ → ℕ → List ℕ → Key
 key_from name t c rdata = record { owner = lowered name; rrtype = t; rrclass = c; rdata = rdata }
+
+abbrev pub key_in : RecordKey → Key
+key_in k = key_from k.name.now k.rrtype k.rrclass k.rdata.now
 
 -- Where the first record with a key stands.
 unfoldable pub index_of : Key → List Record → Option ℕ

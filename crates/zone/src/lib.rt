@@ -8,7 +8,7 @@ mod records;
 pub use editing::{BatchResult, EDITS, batch};
 pub use reading::{CheckedEdit, Edit, EditReading, allowed, checked_edit, read_edit};
 pub use records::{
-    AREA, Area, BLOCK, Found, RECORDS, block, clamped, find, has_key, owner, rdata, rrclass,
+    AREA, Area, BLOCK, Found, RECORDS, RecordKey, Store, Zone, block, clamped, find, has_key, owner, rdata, rrclass,
     rrtype, ttl,
 };
 

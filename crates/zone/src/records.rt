@@ -34,6 +34,29 @@ pub const AREA: usize = RECORDS * BLOCK;
 // The lent memory of a store.
 pub type Area = [u8; AREA];
 
+// A store: lent memory, and how many records stand in it. A count over 40 counts as 40.
+#[derive(Clone, Copy)]
+pub struct Store<'a> {
+    pub area: &'a Area,
+    pub count: usize,
+}
+
+// The zone: its name, and its records.
+#[derive(Clone, Copy)]
+pub struct Zone<'a> {
+    pub name: &'a [u8],
+    pub store: Store<'a>,
+}
+
+// The parts of a record that tell it from others: all but the TTL.
+#[derive(Clone, Copy)]
+pub struct RecordKey<'a> {
+    pub name: &'a [u8],
+    pub rrtype: u16,
+    pub rrclass: u16,
+    pub rdata: &'a [u8],
+}
+
 // A block of the area; past the last one nothing.
 pub fn block(area: &Area, i: usize) -> &[u8]
     ensures { result.now ≡ block_at area.now i }
