@@ -4,7 +4,7 @@ use Prim.Native.Nat.{ℕ}
 use mathlib.Core.Path.{◌≡◌, refl}
 use mathlib.Core.Bool.{true, false}
 use mathlib.Core.List.{List, [], ◌∷◌, ◌++◌}
-use mathlib.Core.Option.{none, some}
+use Rattle.std.specs.Prelude.{None, Some}
 use lib.ListN.{replicate}
 use Rattle.wire.specs.Name.{labels, name_length, is_name, lower, same_octets, same_name, ends_in, within}
 
@@ -17,38 +17,38 @@ name_of [] = 0 ∷ []
 name_of (n ∷ ns) = label n ++ name_of ns
 
 -- 2: a label of 63 octets is read, one of 64 is not.
-pub label-63 : name_length (name_of (63 ∷ [])) ≡ some 65
+pub label-63 : name_length (name_of (63 ∷ [])) ≡ Some 65
 unfolding name_length labels
 label-63 = refl
 
-pub label-64 : name_length (name_of (64 ∷ [])) ≡ none
+pub label-64 : name_length (name_of (64 ∷ [])) ≡ None
 unfolding name_length labels
 label-64 = refl
 
 -- 3: a name of 255 octets is read, one of 256 is not.
-pub name-255 : name_length (name_of (63 ∷ 63 ∷ 63 ∷ 61 ∷ [])) ≡ some 255
+pub name-255 : name_length (name_of (63 ∷ 63 ∷ 63 ∷ 61 ∷ [])) ≡ Some 255
 unfolding name_length labels
 name-255 = refl
 
-pub name-256 : name_length (name_of (63 ∷ 63 ∷ 63 ∷ 62 ∷ [])) ≡ none
+pub name-256 : name_length (name_of (63 ∷ 63 ∷ 63 ∷ 62 ∷ [])) ≡ None
 unfolding name_length labels
 name-256 = refl
 
--- The root alone is a name. A name that breaks off is none, and neither is a compression pointer.
-pub root : name_length (0 ∷ []) ≡ some 1
+-- The root alone is a name. A name that breaks off is None, and neither is a compression pointer.
+pub root : name_length (0 ∷ []) ≡ Some 1
 unfolding name_length labels
 root = refl
 
-pub broken-off : name_length (3 ∷ 97 ∷ 98 ∷ []) ≡ none
+pub broken-off : name_length (3 ∷ 97 ∷ 98 ∷ []) ≡ None
 unfolding name_length labels
 broken-off = refl
 
-pub pointer : name_length (192 ∷ 12 ∷ 0 ∷ []) ≡ none
+pub pointer : name_length (192 ∷ 12 ∷ 0 ∷ []) ≡ None
 unfolding name_length labels
 pointer = refl
 
 -- What follows a name is no part of it.
-pub followed : name_length (1 ∷ 97 ∷ 0 ∷ 0 ∷ 1 ∷ []) ≡ some 3
+pub followed : name_length (1 ∷ 97 ∷ 0 ∷ 0 ∷ 1 ∷ []) ≡ Some 3
 unfolding name_length labels
 followed = refl
 

@@ -3,7 +3,7 @@ use Prim.Native.Nat.{ℕ, zero, suc, ◌+◌, ◌-◌, ◌%◌, ◌≤◌, ◌<�
 use mathlib.Core.Path.{◌≡◌, refl, sym, ap, ap₂, ◌∙◌}
 use mathlib.Core.Bool.{Bool, true, false, cond, ◌&&◌, ◌||◌}
 use mathlib.Core.List.{List, [], ◌∷◌, map}
-use mathlib.Core.Option.{Option, none, some}
+use Rattle.std.specs.Prelude.{Option, None, Some}
 use native.Mathlib.Omega.{arith}
 use lib.ListN.{length, take, drop, get_or, length-take, length-map, get_or-map, drop_of_length-le}
 use lib.Seq.{drop-cons, drop-drop, get_or-take}
@@ -11,9 +11,7 @@ use lib.Dec.{eqb}
 use borrow.Author.Tests.{le-leb, lt-leb, ne_eqb}
 use Rattle.wire.specs.Name.{max_label, max_name, after, labels, name_length, lower, lowered, same_octets, same_name, ends_in, within}
 use Rattle.wire.specs.Case.{caseless}
-use Rattle.wire.specs.Reading.{reading, name_front, name_at}
-use Rattle.wire.specs.declared.name.NameReading.{NameReading}
-use Rattle.wire.specs.declared.name.NameReading.TheVariants.{Name, NoName}
+use Rattle.wire.specs.Reading.{name_at}
 use Rattle.wire.proofs.Names.{after-zero, after-after, labels-drop, lower-cases, lowered-take, lowered-drop, same_octets-true, same_octets-of, same_name-of, same_name-length, ends_in-drop}
 use Rattle.wire.proofs.Writes.{drop-slice}
 
@@ -31,10 +29,10 @@ pub read_none : (s : List ℕ) → Read s 0
 unfolding name_length
 read_none s = record { rest = sym (after-zero (labels 0 (take max_name s))) }
 
-pub read_past : (s : List ℕ) (i : ℕ) → Read s i → length (take max_name s) ≤ i → NoName ≡ name_front s
-unfolding name_front labels
+pub read_past : (s : List ℕ) (i : ℕ) → Read s i → length (take max_name s) ≤ i → None ≡ name_length s
+unfolding labels
 read_past s i r h =
-    sym (ap reading (r.rest ∙ ap (λ (l : List ℕ). after i (labels 0 l)) (drop_of_length-le (take max_name s) h)))
+    sym (r.rest ∙ ap (λ (l : List ℕ). after i (labels 0 l)) (drop_of_length-le (take max_name s) h))
 
 module _ (s : List ℕ) (i : ℕ) (r : Read s i) (h : i < length s) (k : i < max_name) where
   -- The octet that is next, and what lies behind it.
@@ -42,17 +40,17 @@ module _ (s : List ℕ) (i : ℕ) (r : Read s i) (h : i < length s) (k : i < max
   next = drop-cons (take max_name s) i 0 (omega (arith, length-take max_name s))
       ∙ ap (λ (b : ℕ). b ∷ drop (suc i) (take max_name s)) (get_or-take max_name s i 0 k)
 
-  pub read-zero : get_or s i 0 ≡ 0 → Name (i + 1) ≡ name_front s
-  unfolding name_front labels
-  read-zero e = sym (ap reading (r.rest ∙ ap (λ (l : List ℕ). after i (labels 0 l)) (next ∙ ap (λ (b : ℕ). b ∷ drop (suc i) (take max_name s)) e)))
+  pub read-zero : get_or s i 0 ≡ 0 → Some (i + 1) ≡ name_length s
+  unfolding labels
+  read-zero e = sym (r.rest ∙ ap (λ (l : List ℕ). after i (labels 0 l)) (next ∙ ap (λ (b : ℕ). b ∷ drop (suc i) (take max_name s)) e))
 
-  pub read-over : max_label < get_or s i 0 → NoName ≡ name_front s
-  unfolding name_front labels
+  pub read-over : max_label < get_or s i 0 → None ≡ name_length s
+  unfolding labels
   read-over e =
       let b : ℕ = get_or s i 0 in
       let t : List ℕ = drop (suc i) (take max_name s) in
-      sym (ap reading (r.rest ∙ ap (λ (l : List ℕ). after i (labels 0 l)) next
-      ∙ ap₂ (λ (x y : Bool). after i (cond x (some 1) (cond y (after 1 (labels b t)) none))) (ne_eqb b 0 (λ z. omega arith)) (lt-leb b max_label e)))
+      sym (r.rest ∙ ap (λ (l : List ℕ). after i (labels 0 l)) next
+      ∙ ap₂ (λ (x y : Bool). after i (cond x (Some 1) (cond y (after 1 (labels b t)) None))) (ne_eqb b 0 (λ z. omega arith)) (lt-leb b max_label e))
 
   pub read-label : (get_or s i 0 ≡ 0 → ⊥) → get_or s i 0 ≤ max_label → Read s (i + (get_or s i 0 + 1))
   unfolding labels
@@ -63,19 +61,15 @@ module _ (s : List ℕ) (i : ℕ) (r : Read s i) (h : i < length s) (k : i < max
       let m : suc i + b ≡ i + (b + 1) = omega arith in
       record {
         rest = r.rest ∙ ap (λ (l : List ℕ). after i (labels 0 l)) next
-            ∙ ap₂ (λ (x y : Bool). after i (cond x (some 1) (cond y (after 1 (labels b (drop (suc i) w))) none))) (ne_eqb b 0 e) (le-leb b max_label f)
+            ∙ ap₂ (λ (x y : Bool). after i (cond x (Some 1) (cond y (after 1 (labels b (drop (suc i) w))) None))) (ne_eqb b 0 e) (le-leb b max_label f)
             ∙ ap (λ (o : Option ℕ). after i (after 1 o)) (labels-drop b (drop (suc i) w) ∙ ap (λ (l : List ℕ). after b (labels 0 l)) (drop-drop b (suc i) w ∙ ap (λ (j : ℕ). drop j w) m))
             ∙ ap (after i) (after-after 1 b (labels 0 (drop (i + (b + 1)) w))) ∙ after-after i (1 + b) (labels 0 (drop (i + (b + 1)) w))
             ∙ ap (λ (j : ℕ). after j (labels 0 (drop (i + (b + 1)) w))) n;
       }
 
-pub name_at-past : (s : List ℕ) (at : ℕ) → length s ≤ at → NoName ≡ name_at s at
-unfolding name_at name_front name_length labels
-name_at-past s at h = sym (ap (λ (l : List ℕ). reading (labels 0 (take max_name l))) (drop_of_length-le s h))
-
-pub name_at-slice : (s : List ℕ) (at : ℕ) (r : NameReading) → r ≡ name_front (take (length s - at) (drop at s)) → r ≡ name_at s at
-unfolding name_at
-name_at-slice s at r e = e ∙ ap name_front (drop-slice s at)
+pub name_at_past : (s : List ℕ) (at : ℕ) → length s ≤ at → None ≡ name_at s at
+unfolding name_length labels
+name_at_past s at h = sym (ap (λ (l : List ℕ). labels 0 (take max_name l)) (drop_of_length-le s h))
 
 -- ---- octets side by side
 

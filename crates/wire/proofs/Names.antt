@@ -3,7 +3,7 @@ use Prim.Native.Nat.{ℕ, zero, suc, ◌+◌, ◌-◌, ◌≤◌, ◌<◌}
 use mathlib.Core.Path.{◌≡◌, refl, sym, ap, ap₂, ◌∙◌, subst}
 use mathlib.Core.Bool.{Bool, true, false, cond, ◌&&◌, ◌||◌}
 use mathlib.Core.List.{List, [], ◌∷◌, ◌++◌, append-nil, head-eq_of_cons-eq, tail-eq_of_cons-eq}
-use mathlib.Core.Option.{Option, none, some}
+use Rattle.std.specs.Prelude.{Option, None, Some}
 use native.Mathlib.Nat.{zero-add, add_assoc, suc_inj}
 use native.Mathlib.Numerals.{one-add}
 use native.Mathlib.Omega.{arith}
@@ -12,19 +12,17 @@ use lib.Seq.{take-take, take-length, take_all, take-append-add, drop-append_seam
 use lib.Dec.{leb, eqb}
 use borrow.Author.Tests.{leb-true, leb-false, eqb-true, eqb-false, le-leb, lt-leb, eq-eqb, ne_eqb}
 use Rattle.wire.specs.Name.{max_label, max_name, after, labels, name_length, holds, is_name, lower, lowered, same_octets, same_name, ends_in, within}
-use Rattle.wire.specs.Reading.{reading, name_front, name_at}
-use Rattle.wire.specs.declared.name.NameReading.{NameReading}
-use Rattle.wire.specs.declared.name.NameReading.TheVariants.{Name, NoName}
+use Rattle.wire.specs.Reading.{name_at}
 
 -- ---- octets passed one by one, and by labels
 
 pub after-zero : (o : Option ℕ) → after 0 o ≡ o
-after-zero none = refl
-after-zero (some n) = ap some (zero-add n)
+after-zero None = refl
+after-zero (Some n) = ap Some (zero-add n)
 
 pub after-after : (j k : ℕ) (o : Option ℕ) → after j (after k o) ≡ after (j + k) o
-after-after j k none = refl
-after-after j k (some n) = ap some (sym (add_assoc j k n))
+after-after j k None = refl
+after-after j k (Some n) = ap Some (sym (add_assoc j k n))
 
 pub labels-drop : (k : ℕ) (l : List ℕ) → labels k l ≡ after k (labels 0 (drop k l))
 unfolding labels
@@ -39,41 +37,41 @@ pub data Reads : ℕ → List ℕ → ℕ → Type 0 where
   passes : {k b n : ℕ} {l : List ℕ} → Reads k l n → Reads (suc k) (b ∷ l) (suc n)
   begins : {b n : ℕ} {l : List ℕ} → 0 < b → b ≤ max_label → Reads b l n → Reads 0 (b ∷ l) (suc n)
 
-one_more : (k n : ℕ) → some (1 + k) ≡ some n → suc k ≡ n
+one_more : (k n : ℕ) → Some (1 + k) ≡ Some n → suc k ≡ n
 one_more k n e = sym (one-add k) ∙ cc
 
 module _ (b : ℕ) (l : List ℕ) (n : ℕ) where
-  passed : (k j : ℕ) → ((m : ℕ) → Reads k l m → Reads j (b ∷ l) (suc m)) → (o : Option ℕ) → ((m : ℕ) → o ≡ some m → Reads k l m)
-      → after 1 o ≡ some n → Reads j (b ∷ l) n
-  passed k j step none ih h = let z : ◌≡◌ {A = ℕ} 0 1 = cc in absurd (omega arith)
-  passed k j step (some m) ih h = subst (λ (i : ℕ). Reads j (b ∷ l) i) (one_more m n h) (step m (ih m refl))
+  passed : (k j : ℕ) → ((m : ℕ) → Reads k l m → Reads j (b ∷ l) (suc m)) → (o : Option ℕ) → ((m : ℕ) → o ≡ Some m → Reads k l m)
+      → after 1 o ≡ Some n → Reads j (b ∷ l) n
+  passed k j step None ih h = let z : ◌≡◌ {A = ℕ} 0 1 = cc in absurd (omega arith)
+  passed k j step (Some m) ih h = subst (λ (i : ℕ). Reads j (b ∷ l) i) (one_more m n h) (step m (ih m refl))
 
-  short : (o : Option ℕ) → ((m : ℕ) → o ≡ some m → Reads b l m) → 0 < b → (t : Bool) → leb b max_label ≡ t
-      → cond t (after 1 o) none ≡ some n → Reads 0 (b ∷ l) n
+  short : (o : Option ℕ) → ((m : ℕ) → o ≡ Some m → Reads b l m) → 0 < b → (t : Bool) → leb b max_label ≡ t
+      → cond t (after 1 o) None ≡ Some n → Reads 0 (b ∷ l) n
   short o ih p true q h = passed b 0 (λ m r. begins p (leb-true b max_label q) r) o ih h
   short o ih p false q h = let z : ◌≡◌ {A = ℕ} 0 1 = cc in absurd (omega arith)
 
-  begun : (o : Option ℕ) → ((m : ℕ) → o ≡ some m → Reads b l m) → (t : Bool) → eqb b 0 ≡ t
-      → cond t (some 1) (cond (leb b max_label) (after 1 o) none) ≡ some n → Reads 0 (b ∷ l) n
+  begun : (o : Option ℕ) → ((m : ℕ) → o ≡ Some m → Reads b l m) → (t : Bool) → eqb b 0 ≡ t
+      → cond t (Some 1) (cond (leb b max_label) (after 1 o) None) ≡ Some n → Reads 0 (b ∷ l) n
   begun o ih true q h =
       let e : 1 ≡ n = cc in
       subst (λ (j : ℕ). Reads 0 (b ∷ l) j) e (subst (λ (c : ℕ). Reads 0 (c ∷ l) 1) (sym (eqb-true b 0 q)) ends)
   begun o ih false q h = short o ih (omega (arith, eqb-false b 0 q)) (leb b max_label) refl h
 
-pub reads : (k : ℕ) (l : List ℕ) (n : ℕ) → labels k l ≡ some n → Reads k l n
+pub reads : (k : ℕ) (l : List ℕ) (n : ℕ) → labels k l ≡ Some n → Reads k l n
 unfolding labels
 reads k [] n h = let z : ◌≡◌ {A = ℕ} 0 1 = cc in absurd (omega arith)
 reads (suc k) (b ∷ l) n h = passed b l n k (suc k) (λ m r. passes r) (labels k l) (λ m e. reads k l m e) h
 reads zero (b ∷ l) n h = begun b l n (labels b l) (λ m e. reads b l m e) (eqb b 0) refl h
 
-pub labels-of : {k n : ℕ} {l : List ℕ} → Reads k l n → labels k l ≡ some n
+pub labels-of : {k n : ℕ} {l : List ℕ} → Reads k l n → labels k l ≡ Some n
 unfolding labels
 labels-of ends = refl
-labels-of (passes {n = n} r) = ap (after 1) (labels-of r) ∙ ap some (one-add n)
+labels-of (passes {n = n} r) = ap (after 1) (labels-of r) ∙ ap Some (one-add n)
 labels-of (begins {b} {n} {l} p q r) =
-    ap (λ (t : Bool). cond t (some 1) (cond (leb b max_label) (after 1 (labels b l)) none)) (ne_eqb b 0 (λ e. omega arith))
-    ∙ ap (λ (t : Bool). cond t (after 1 (labels b l)) none) (le-leb b max_label q)
-    ∙ ap (after 1) (labels-of r) ∙ ap some (one-add n)
+    ap (λ (t : Bool). cond t (Some 1) (cond (leb b max_label) (after 1 (labels b l)) None)) (ne_eqb b 0 (λ e. omega arith))
+    ∙ ap (λ (t : Bool). cond t (after 1 (labels b l)) None) (le-leb b max_label q)
+    ∙ ap (after 1) (labels-of r) ∙ ap Some (one-add n)
 
 pub reads-bounds : {k n : ℕ} {l : List ℕ} → Reads k l n → (k < n) × (n ≤ length l)
 reads-bounds ends = (omega arith, omega arith)
@@ -88,21 +86,21 @@ reads-front (begins p q h) r = begins p q (reads-front h r)
 
 -- ---- the name at the front of a list
 
-pub name_length-reads : (l : List ℕ) (n : ℕ) → name_length l ≡ some n → Reads 0 (take max_name l) n
+pub name_length-reads : (l : List ℕ) (n : ℕ) → name_length l ≡ Some n → Reads 0 (take max_name l) n
 unfolding name_length
 name_length-reads l n h = reads 0 (take max_name l) n h
 
-pub name_length-pos : (l : List ℕ) (n : ℕ) → name_length l ≡ some n → 1 ≤ n
+pub name_length-pos : (l : List ℕ) (n : ℕ) → name_length l ≡ Some n → 1 ≤ n
 name_length-pos l n h = (reads-bounds (name_length-reads l n h)).0
 
-pub name_length-max : (l : List ℕ) (n : ℕ) → name_length l ≡ some n → n ≤ max_name
+pub name_length-max : (l : List ℕ) (n : ℕ) → name_length l ≡ Some n → n ≤ max_name
 name_length-max l n h = omega (arith, (reads-bounds (name_length-reads l n h)).1, length-take max_name l)
 
-pub name_length-le : (l : List ℕ) (n : ℕ) → name_length l ≡ some n → n ≤ length l
+pub name_length-le : (l : List ℕ) (n : ℕ) → name_length l ≡ Some n → n ≤ length l
 name_length-le l n h = omega (arith, (reads-bounds (name_length-reads l n h)).1, length-take max_name l)
 
 -- What follows a name does not change its reading.
-pub name_length-front : (l : List ℕ) (n : ℕ) (r : List ℕ) → name_length l ≡ some n → name_length (take n l ++ r) ≡ some n
+pub name_length-front : (l : List ℕ) (n : ℕ) (r : List ℕ) → name_length l ≡ Some n → name_length (take n l ++ r) ≡ Some n
 unfolding name_length
 name_length-front l n r h =
     let m : n ≤ max_name = name_length-max l n h in
@@ -112,28 +110,28 @@ name_length-front l n r h =
     ∙ ap (λ (k : List ℕ). k ++ take (max_name - n) r) (sym (take-take n max_name l m)))
     ∙ labels-of (reads-front (name_length-reads l n h) (take (max_name - n) r))
 
-pub name_length-take : (l : List ℕ) (n : ℕ) → name_length l ≡ some n → name_length (take n l) ≡ some n
+pub name_length-take : (l : List ℕ) (n : ℕ) → name_length l ≡ Some n → name_length (take n l) ≡ Some n
 name_length-take l n h = ap name_length (sym (append-nil (take n l))) ∙ name_length-front l n [] h
 
 -- ---- a whole name
 
-holds-some : (o : Option ℕ) (n : ℕ) → holds o n ≡ true → o ≡ some n
-holds-some none n h = let z : ◌≡◌ {A = ℕ} 0 1 = cc in absurd (omega arith)
-holds-some (some m) n h = ap some (eqb-true m n h)
+holds-some : (o : Option ℕ) (n : ℕ) → holds o n ≡ true → o ≡ Some n
+holds-some None n h = let z : ◌≡◌ {A = ℕ} 0 1 = cc in absurd (omega arith)
+holds-some (Some m) n h = ap Some (eqb-true m n h)
 
-pub is_name-length : (a : List ℕ) → is_name a ≡ true → name_length a ≡ some (length a)
+pub is_name-length : (a : List ℕ) → is_name a ≡ true → name_length a ≡ Some (length a)
 unfolding is_name
 is_name-length a h = holds-some (name_length a) (length a) h
 
-pub is_name-of : (a : List ℕ) → name_length a ≡ some (length a) → is_name a ≡ true
+pub is_name-of : (a : List ℕ) → name_length a ≡ Some (length a) → is_name a ≡ true
 unfolding is_name
 is_name-of a h = ap (λ (o : Option ℕ). holds o (length a)) h ∙ eq-eqb (length a) (length a) refl
 
-pub is_name-take : (l : List ℕ) (n : ℕ) → name_length l ≡ some n → is_name (take n l) ≡ true
+pub is_name-take : (l : List ℕ) (n : ℕ) → name_length l ≡ Some n → is_name (take n l) ≡ true
 is_name-take l n h =
-    is_name-of (take n l) (name_length-take l n h ∙ ap some (sym (length-take-le n l (name_length-le l n h))))
+    is_name-of (take n l) (name_length-take l n h ∙ ap Some (sym (length-take-le n l (name_length-le l n h))))
 
-pub name_length-append : (a r : List ℕ) → is_name a ≡ true → name_length (a ++ r) ≡ some (length a)
+pub name_length-append : (a r : List ℕ) → is_name a ≡ true → name_length (a ++ r) ≡ Some (length a)
 name_length-append a r h =
     ap (λ (k : List ℕ). name_length (k ++ r)) (sym (take-length a)) ∙ name_length-front a (length a) r (is_name-length a h)
 
@@ -145,34 +143,22 @@ is_name-max a h = name_length-max a (length a) (is_name-length a h)
 
 -- ---- what reading answers, wherever the octets stand
 
-pub reading-name : (o : Option ℕ) (n : ℕ) → reading o ≡ Name n → o ≡ some n
-reading-name none n h = let z : ◌≡◌ {A = ℕ} 0 1 = cc in absurd (omega arith)
-reading-name (some m) n h = cc
+pub name_at-name : (r : Option ℕ) (s : List ℕ) (at n : ℕ) → r ≡ name_at s at → r ≡ Some n → name_length (drop at s) ≡ Some n
+name_at-name r s at n h e = sym h ∙ e
 
-pub reading-none : (o : Option ℕ) → reading o ≡ NoName → o ≡ none
-reading-none none h = refl
-reading-none (some m) h = let z : ◌≡◌ {A = ℕ} 0 1 = cc in absurd (omega arith)
-
-pub name_at-name : (r : NameReading) (s : List ℕ) (at n : ℕ) → r ≡ name_at s at → r ≡ Name n → name_length (drop at s) ≡ some n
-unfolding name_at name_front
-name_at-name r s at n h e = reading-name (name_length (drop at s)) n (sym h ∙ e)
-
-pub name_at-none : (r : NameReading) (s : List ℕ) (at : ℕ) → r ≡ name_at s at → r ≡ NoName → name_length (drop at s) ≡ none
-unfolding name_at name_front
-name_at-none r s at h e = reading-none (name_length (drop at s)) (sym h ∙ e)
+pub name_at-none : (r : Option ℕ) (s : List ℕ) (at : ℕ) → r ≡ name_at s at → r ≡ None → name_length (drop at s) ≡ None
+name_at-none r s at h e = sym h ∙ e
 
 -- What was read lies within the list, and is a name by itself.
-pub name_at-fits : (s : List ℕ) (at n : ℕ) → name_length (drop at s) ≡ some n → at + n ≤ length s
+pub name_at-fits : (s : List ℕ) (at n : ℕ) → name_length (drop at s) ≡ Some n → at + n ≤ length s
 name_at-fits s at n h =
     omega (arith, name_length-pos (drop at s) n h, name_length-le (drop at s) n h, length-drop at s)
 
-pub name_at-some : (s : List ℕ) (at n : ℕ) → name_length (drop at s) ≡ some n → name_at s at ≡ Name n
-unfolding name_at name_front
-name_at-some s at n h = ap reading h
+pub name_at-some : (s : List ℕ) (at n : ℕ) → name_length (drop at s) ≡ Some n → name_at s at ≡ Some n
+name_at-some s at n h = h
 
 pub name_at-append : (x s : List ℕ) → name_at (x ++ s) (length x) ≡ name_at s 0
-unfolding name_at
-name_at-append x s = ap name_front (drop-append_seam x s)
+name_at-append x s = ap name_length (drop-append_seam x s)
 
 pub name_length-drop-append : (x s : List ℕ) → name_length (drop (length x) (x ++ s)) ≡ name_length s
 name_length-drop-append x s = ap name_length (drop-append_seam x s)
@@ -251,11 +237,11 @@ labels-lowered zero (b ∷ l) =
     (λ h k. over (b + 32) (lowered l) (omega arith) ∙ sym (over b l (omega arith))) (λ h. same b (labels-lowered b l))
   where
     same : (c : ℕ) → labels c (lowered l) ≡ labels c l → labels 0 (c ∷ lowered l) ≡ labels 0 (c ∷ l)
-    same c e = ap (λ (o : Option ℕ). cond (eqb c 0) (some 1) (cond (leb c max_label) (after 1 o) none)) e
+    same c e = ap (λ (o : Option ℕ). cond (eqb c 0) (Some 1) (cond (leb c max_label) (after 1 o) None)) e
 
-    over : (c : ℕ) (r : List ℕ) → max_label < c → labels 0 (c ∷ r) ≡ none
+    over : (c : ℕ) (r : List ℕ) → max_label < c → labels 0 (c ∷ r) ≡ None
     over c r h =
-        ap₂ (λ (s t : Bool). cond s (some 1) (cond t (after 1 (labels c r)) none)) (ne_eqb c 0 (λ e. omega arith)) (lt-leb c max_label h)
+        ap₂ (λ (s t : Bool). cond s (Some 1) (cond t (after 1 (labels c r)) None)) (ne_eqb c 0 (λ e. omega arith)) (lt-leb c max_label h)
 
 pub name_length-lowered : (a : List ℕ) → name_length (lowered a) ≡ name_length a
 unfolding name_length

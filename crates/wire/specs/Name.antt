@@ -1,8 +1,7 @@
 -- Names: reading one, two being the same name, one being at or below another.
 -- 01, "What the dock can hold": uncompressed labels of 1 to 63 octets, a zero octet at the end, at most 255 octets in
 -- all; US-ASCII letters compare without case (RFC 1035, 2.3.3 and 3.1).
-use Rattle.std.specs.Prelude.{ℕ, zero, suc, ◌+◌, Bool, true, false, cond, ◌&&◌, ◌||◌, List, [], ◌∷◌, map, length, take, leb, eqb}
-use Rattle.std.proofs.Math.Option.{Option, none, some}
+use Rattle.std.specs.Prelude.{ℕ, zero, suc, ◌+◌, Bool, true, false, cond, ◌&&◌, ◌||◌, Option, None, Some, List, [], ◌∷◌, map, length, take, leb, eqb}
 
 -- The most octets in a label and in a name.
 abbrev pub max_label : ℕ
@@ -13,23 +12,23 @@ max_name = 255
 
 -- k octets more.
 abbrev pub after : ℕ → Option ℕ → Option ℕ
-after k none = none
-after k (some n) = some (k + n)
+after k None = None
+after k (Some n) = Some (k + n)
 
 -- How many octets there are up to and with the zero octet that ends a name; k octets of the label that is being read are
 -- still to come. None where the octets run out first, or where a length octet is over 63 (a pointer too).
 unfoldable pub labels : ℕ → List ℕ → Option ℕ
-labels k [] = none
+labels k [] = None
 labels (suc k) (b ∷ l) = after 1 (labels k l)
-labels zero (b ∷ l) = cond (eqb b 0) (some 1) (cond (leb b max_label) (after 1 (labels b l)) none)
+labels zero (b ∷ l) = cond (eqb b 0) (Some 1) (cond (leb b max_label) (after 1 (labels b l)) None)
 
 -- The length of the name that stands at the front of a list, if one does.
 unfoldable pub name_length : List ℕ → Option ℕ
 name_length l = labels 0 (take max_name l)
 
 abbrev pub holds : Option ℕ → ℕ → Bool
-holds none n = false
-holds (some m) n = eqb m n
+holds None n = false
+holds (Some m) n = eqb m n
 
 -- Whether the whole list is a name: one stands at its front, and nothing follows it.
 unfoldable pub is_name : List ℕ → Bool

@@ -6,5 +6,5 @@ mod name;
 mod write;
 
 pub use field::{field16, field32};
-pub use name::{NameReading, name_at, same_name, same_octets, within};
+pub use name::{name_at, same_name, same_octets, within};
 pub use write::{write_octets, write16, write32};

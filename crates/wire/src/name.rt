@@ -1,43 +1,35 @@
 // Names: reading one, comparing two, and one being at or below another.
 ghost use Rattle.std.specs.Prelude.{◌≤◌, ◌≡◌, map, length};
-ghost use Rattle.wire.specs.Name.{lower, same_octets, same_name, within as is_within};
+ghost use Rattle.wire.specs.Name.{lower, name_length, same_octets, same_name, within as is_within};
 ghost use Rattle.wire.specs.Case.{caseless};
-ghost use Rattle.wire.specs.Reading.{name_at, name_front};
+ghost use Rattle.wire.specs.Reading.{name_at};
 
-// What stands at a place: a name of so many octets, the zero octet at its end counted; or no name.
-#[derive(Clone, Copy)]
-pub enum NameReading {
-    Name(usize),
-    NoName,
-}
-
-fn name_front(s: &[u8]) -> NameReading
-    ensures { result ≡ name_front s.now }
+// The octets of the name at the front, the zero octet at its end counted, if a name stands there.
+fn name_front(s: &[u8]) -> Option<usize>
+    ensures { result ≡ name_length s.now }
 {
     let mut i: usize = 0;
     while i < s.len() {
         if 255 <= i {
-            return NameReading::NoName;
+            return None;
         }
         let n = s[i] as usize;
         if n == 0 {
-            return NameReading::Name(i + 1);
+            return Some(i + 1);
         }
         if 63 < n {
-            return NameReading::NoName;
+            return None;
         }
         i += n + 1;
     }
-    NameReading::NoName
+    None
 }
 
-pub fn name_at(s: &[u8], at: usize) -> NameReading
+#[tactic(auto, using(crate::proofs::Loops::name_at_past))]
+pub fn name_at(s: &[u8], at: usize) -> Option<usize>
     ensures { result ≡ name_at s.now at }
 {
-    if s.len() <= at {
-        return NameReading::NoName;
-    }
-    name_front(&s[at..])
+    name_front(s.get(at..)?)
 }
 
 fn lower(b: u8) -> u8
