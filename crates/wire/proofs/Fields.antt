@@ -6,7 +6,8 @@ use mathlib.Core.Bool.{Bool, true, false, ◌&&◌}
 use mathlib.Core.List.{List, [], ◌∷◌, ◌++◌}
 use native.Mathlib.Nat.{mod-one, pow-succ', one-le-pow, mod-eq_of_lt, mul-add-div_right, mul-add-mod_self_right, mod-lt, mul_assoc, div-add-mod', div-one, div-lt_iff_lt-mul, div-div-eq-div-mul, suc-add, zero-add, add_comm, le_of_suc-le-suc, not-suc-le-zero}
 use native.Mathlib.Omega.{arith}
-use lib.ListN.{length, take, drop, get_or, drop_of_length-le}
+use lib.ListN.{length, take, drop, get_or, replicate, drop_of_length-le}
+use Rattle.std.specs.Int.{w16, w32, to_be_bytes, from_be_bytes, bytes_high_first}
 use lib.Arith.{mod-mul, digits_lt, digits_div}
 use lib.Seq.{drop-drop}
 use lib.Pow.{pow-add, are_bytes}
@@ -179,3 +180,31 @@ octets-field (suc n) (b ∷ l) h k =
     ap (λ (y : ℕ). y % 256) (digits_div b (field_lt n l hl)) ∙ mod-eq_of_lt (octet-at (b ∷ l) 0 h) in
     let t : octets n (b * 256 ^ n + field n l) ≡ take n l = octets-high n b (field n l) ∙ octets-field n l hl (le_of_suc-le-suc k) in
     cc
+
+-- ---- std's octets of a number, the most significant first
+
+pub be_octets : (n x : ℕ) → bytes_high_first n x ≡ octets n x
+unfolding octets
+be_octets zero x = refl
+be_octets (suc zero) x = ap (λ (k : ℕ). k % 256 ∷ []) (sym (div-one x))
+be_octets (suc (suc n)) x = ap (λ (l : List ℕ). x / 256 ^ suc n % 256 ∷ l) (be_octets (suc n) x)
+
+pub be_two : (l : List ℕ) → from_be_bytes w16 (take 2 (l ++ replicate 2 0)) ≡ field 2 l
+unfolding field
+be_two [] = refl
+be_two (a ∷ []) = omega arith
+be_two (a ∷ b ∷ l) = omega arith
+
+pub be_four : (l : List ℕ) → from_be_bytes w32 (take 4 (l ++ replicate 4 0)) ≡ field 4 l
+unfolding field
+be_four [] = refl
+be_four (a ∷ []) = omega arith
+be_four (a ∷ b ∷ []) = omega arith
+be_four (a ∷ b ∷ c ∷ []) = omega arith
+be_four (a ∷ b ∷ c ∷ d ∷ l) = omega arith
+
+pub two_be : (x : ℕ) → octets 2 x ≡ to_be_bytes w16 x
+two_be x = sym (be_octets 2 x)
+
+pub four_be : (x : ℕ) → octets 4 x ≡ to_be_bytes w32 x
+four_be x = sym (be_octets 4 x)

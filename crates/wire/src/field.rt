@@ -1,31 +1,75 @@
-// Fields of 16 and 32 bits, the most significant octet first. An octet past the end counts as 0.
-ghost use Rattle.std.specs.Prelude.{◌≡◌, get_or, drop};
-ghost use Rattle.wire.specs.Field.{field};
+// Fields of 16 and 32 bits, the most significant octet first. An octet past the end counts as 0; what does not fit is not written.
+ghost use Rattle.std.specs.Prelude.{◌≡◌, ℕ, ◌++◌, take, drop, replicate};
+ghost use Rattle.std.proofs.lemmas.List.Edits.{sets};
+ghost use Rattle.wire.specs.Field.{field, octets};
 
-fn octet(s: &[u8], at: usize) -> u8
-    ensures { result ≡ get_or s.now at 0 }
-{
-    if at < s.len() { s[at] } else { 0 }
+use crate::write::write_octets;
+
+// A number that stands in a message as `size` octets.
+pub trait Field: Copy {
+    ghost size: { ℕ };
+
+    ghost number: { Self → ℕ };
+
+    fn from_octets(s: &[u8]) -> Self
+        ensures { number result ≡ field size s.now };
+
+    fn write(self, out: &mut [u8], at: usize)
+        ensures { out.new ≡ sets out.old at (octets size (number self)) };
 }
 
-pub fn field16(s: &[u8], at: usize) -> u16
-    ensures { result ≡ field 2 (drop at s.now) }
-{
-    if s.len() <= at {
-        return 0;
+impl Field for u16 {
+    ghost size = { 2 };
+
+    ghost number = { λ x. x };
+
+    #[tactic(auto, using(crate::proofs::Fields::be_two))]
+    fn from_octets(s: &[u8]) -> u16 {
+        u16::from_be_bytes(first(s))
     }
-    let high = octet(s, at);
-    let low = octet(s, at + 1);
-    (high as u16) * 256 + (low as u16)
+
+    #[tactic(auto, using(crate::proofs::Fields::two_be))]
+    fn write(self, out: &mut [u8], at: usize) {
+        write_octets(out, at, &u16::to_be_bytes(self));
+    }
 }
 
-pub fn field32(s: &[u8], at: usize) -> u32
-    ensures { result ≡ field 4 (drop at s.now) }
-{
-    if s.len() <= at {
-        return 0;
+impl Field for u32 {
+    ghost size = { 4 };
+
+    ghost number = { λ x. x };
+
+    #[tactic(auto, using(crate::proofs::Fields::be_four))]
+    fn from_octets(s: &[u8]) -> u32 {
+        u32::from_be_bytes(first(s))
     }
-    let high = field16(s, at);
-    let low = field16(s, at + 2);
-    (high as u32) * 65536 + (low as u32)
+
+    #[tactic(auto, using(crate::proofs::Fields::four_be))]
+    fn write(self, out: &mut [u8], at: usize) {
+        write_octets(out, at, &u32::to_be_bytes(self));
+    }
+}
+
+// The first N octets, each that is missing as 0.
+fn first<const N: usize>(s: &[u8]) -> [u8; N]
+    ensures { result ≡ take N (s.now ++ replicate N 0) }
+{
+    if let Some(whole) = s.first_chunk::<N>() {
+        return *whole;
+    }
+    let mut octets = [0; N];
+    octets[..s.len()].copy_from_slice(s);
+    octets
+}
+
+pub fn read_field<T: Field>(s: &[u8], at: usize) -> T
+    ensures { T.number result ≡ field T.size (drop at s.now) }
+{
+    T::from_octets(s.get(at..).unwrap_or(&[]))
+}
+
+pub fn write_field<T: Field>(out: &mut [u8], at: usize, x: T)
+    ensures { out.new ≡ sets out.old at (octets T.size (T.number x)) }
+{
+    x.write(out, at);
 }

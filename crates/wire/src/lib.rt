@@ -5,6 +5,6 @@ mod field;
 mod name;
 mod write;
 
-pub use field::{field16, field32};
+pub use field::{Field, read_field, write_field};
 pub use name::{name_at, same_name, same_octets, within};
-pub use write::{write_octets, write16, write32};
+pub use write::write_octets;
