@@ -3,6 +3,7 @@ use Prim.Native.Nat.{ℕ}
 use native.Mathlib.Omega.{arith}
 use mathlib.Core.List.{List, [], map}
 use mathlib.Core.Option.{none, some}
+use Rattle.std.specs.Prelude.{Option, Some, None, Result, Ok, Err}
 use mathlib.Core.Path.{◌≡◌, refl, sym, ap, ◌∙◌}
 use lib.ListN.{set}
 use Rattle.session.specs.Clocks.{started}
@@ -15,17 +16,13 @@ use Rattle.service.specs.declared.refusal.Refusal.TheVariants.{AllOpen}
 use Rattle.server.specs.declared.state.Server.{Server}
 use Rattle.server.specs.declared.answer.Flags.{Flags}
 use Rattle.server.specs.declared.answer.Outcome.{Outcome}
+use Rattle.server.specs.declared.change.Change.{Change}
 use Rattle.server.specs.declared.change.Change.TheVariants.{Opens, Closes, Ends}
-use Rattle.server.specs.declared.change.Decision.{Decision}
-use Rattle.server.specs.declared.change.Decision.TheVariants.{Takes, Refuses}
-use Rattle.server.specs.declared.checks.Checked.{Checked}
-use Rattle.server.specs.declared.checks.Checked.TheVariants.{Pass, Refuse}
-use Rattle.server.specs.declared.places.Vacant.{Vacant}
-use Rattle.server.specs.declared.places.Vacant.TheVariants.{At, Nowhere}
+use Rattle.server.specs.declared.checks.Brought.{Brought}
 use Rattle.server.specs.Memory.{Memory, area_at, state_of}
 use Rattle.server.specs.Numbers.{vacancy, newcomer}
 use Rattle.server.specs.Changes.{change_answer, change_numbers, answer_by, numbers_by, decided_by}
-use Rattle.server.specs.Checks.{refused_by, vacant_of}
+use Rattle.server.specs.Checks.{option_of, brought_of, refused_by}
 use Rattle.server.specs.Answers.{Gives, Serves, answer_of, flags_of, refusing}
 use Rattle.server.proofs.States.{state-put, slot-vacancy, slot-newcomer}
 use Rattle.server.proofs.Ticks.{state-ticked}
@@ -60,38 +57,44 @@ gives-refusing : (s : Server) (x : Refusal) (m : Memory) (o : List ℕ) → Give
 unfolding answer_of
 gives-refusing s x m o = record { next = refl; answer = refl; output = refl; unchanged = λ y p. refl }
 
-module _ (s : Server) (call : Call) (k : Checked) (h : (m : Memory) → refused_by k ≡ refusal_of (state_of s m) (brought call)) where
-  pub gives-refused : (x : Refusal) → k ≡ Refuse x → (r : Outcome) → r ≡ refusing s x → (m : Memory)
+-- The checks' answer k to what the call brings.
+module _ (s : Server) (call : Call) (b : Brought) (e : brought_of b ≡ brought call) (k : Result Unit Refusal)
+    (h : (m : Memory) → refused_by k ≡ refusal_of (state_of s m) (brought_of b)) where
+  pub gives-refused : (x : Refusal) → k ≡ Err x → (r : Outcome) → r ≡ refusing s x → (m : Memory)
       → Gives s r m (lent call) (outcome (state_of s m) call)
-  gives-refused x e r f m =
-      rw (outcome-refused (state_of s m) call x (sym (h m) ∙ ap refused_by e), f) (gives-refusing s x m (lent call))
+  gives-refused x p r f m =
+      rw (outcome-refused (state_of s m) call x (ap (refusal_of (state_of s m)) (sym e) ∙ sym (h m) ∙ ap refused_by p), f)
+      (gives-refusing s x m (lent call))
 
-  pub gives-passed : k ≡ Pass → (r : Outcome) (m m' : Memory) (o : List ℕ)
+  pub gives-passed : (u : Unit) → k ≡ Ok u → (r : Outcome) (m m' : Memory) (o : List ℕ)
       → Gives s r m' o (passed (state_of s m) call) → Gives s r m' o (outcome (state_of s m) call)
-  gives-passed e r m m' o g = rw (outcome-passed (state_of s m) call (sym (h m) ∙ ap refused_by e)) g
+  gives-passed u p r m m' o g =
+      rw (outcome-passed (state_of s m) call (ap (refusal_of (state_of s m)) (sym e) ∙ sym (h m) ∙ ap refused_by p)) g
+
+  -- A decision passes the checks' refusal on.
+  pub gives-refusal : (x : Refusal) → k ≡ Err x → (t : ℕ) (d : Result Change Refusal) → d ≡ Err x → (m : Memory)
+      → Gives s (decided_by s t d) m (lent call) (outcome (state_of s m) call)
+  unfolding numbers_by answer_by
+  gives-refusal x p t d q m = rw q (gives-refused x p (decided_by s t (Err x)) refl m)
 
 -- ---- a decision
 
-pub gives-refusal : (s : Server) (call : Call) (k : Checked) → ((m : Memory) → refused_by k ≡ refusal_of (state_of s m) (brought call))
-    → (x : Refusal) → k ≡ Refuse x → (t : ℕ) (m : Memory) → Gives s (decided_by s t (Refuses x)) m (lent call) (outcome (state_of s m) call)
-unfolding numbers_by answer_by
-gives-refusal s call k h x e t m = gives-refused s call k h x e (decided_by s t (Refuses x)) refl m
-
-pub serves-decided : (s : Server) (call : Call) (t : ℕ) (k : Decision) (r : Outcome) → r ≡ decided_by s t k
+pub serves-decided : (s : Server) (call : Call) (t : ℕ) (k : Result Change Refusal) (r : Outcome) → r ≡ decided_by s t k
     → ((m : Memory) → Serves s m call (decided_by s t k) m []) → (m : Memory) → Serves s m call r m []
 serves-decided s call t k r e h m = rw e (h m)
 
 -- ---- open
 
-module _ (s : Server) (t : ℕ) (v : Vacant) (h : (m : Memory) → vacant_of v ≡ lowest_free (state_of s m).slots) where
-  pub gives-all-open : v ≡ Nowhere → (m : Memory) → Gives s (decided_by s t (Refuses AllOpen)) m [] (open_outcome (state_of s m) t)
+module _ (s : Server) (t : ℕ) (v : Option ℕ) (h : (m : Memory) → option_of v ≡ lowest_free (state_of s m).slots) where
+  pub gives-all-open : v ≡ None → (d : Result Change Refusal) → d ≡ Err AllOpen → (m : Memory)
+      → Gives s (decided_by s t d) m [] (open_outcome (state_of s m) t)
   unfolding numbers_by answer_by
-  gives-all-open e m = rw (open_none (state_of s m) t (sym (h m) ∙ ap vacant_of e)) (gives-refusing s AllOpen m [])
+  gives-all-open e d q m = rw (open_none (state_of s m) t (sym (h m) ∙ ap option_of e), q) (gives-refusing s AllOpen m [])
 
-  pub gives-opened : (i : ℕ) → v ≡ At i → (m : Memory) → Gives s (decided_by s t (Takes (Opens i))) m [] (open_outcome (state_of s m) t)
+  pub gives-opened : (i : ℕ) → v ≡ Some i → (m : Memory) → Gives s (decided_by s t (Ok (Opens i))) m [] (open_outcome (state_of s m) t)
   unfolding numbers_by answer_by change_numbers change_answer answer_of
   gives-opened i e m =
-      rw (open-some (state_of s m) t i (sym (h m) ∙ ap vacant_of e))
+      rw (open-some (state_of s m) t i (sym (h m) ∙ ap option_of e))
       (record {
         next =
             state-put t i (newcomer t) s m
@@ -103,7 +106,7 @@ module _ (s : Server) (t : ℕ) (v : Vacant) (h : (m : Memory) → vacant_of v �
 
 -- ---- close
 
-pub gives-closed : (s : Server) (t i : ℕ) (m : Memory) → Gives s (decided_by s t (Takes (Closes i))) m [] (close_outcome (state_of s m) t i)
+pub gives-closed : (s : Server) (t i : ℕ) (m : Memory) → Gives s (decided_by s t (Ok (Closes i))) m [] (close_outcome (state_of s m) t i)
 unfolding numbers_by answer_by change_numbers change_answer close_outcome answer_of
 gives-closed s t i m =
     record {
@@ -118,7 +121,7 @@ gives-closed s t i m =
 -- ---- tick
 
 pub gives-ticked : (s : Server) (t : ℕ) (f : Flags) → ((m : Memory) → flags_of f ≡ map (ends_at t) (state_of s m).slots)
-    → (m : Memory) → Gives s (decided_by s t (Takes (Ends f))) m [] (tick_outcome (state_of s m) t)
+    → (m : Memory) → Gives s (decided_by s t (Ok (Ends f))) m [] (tick_outcome (state_of s m) t)
 unfolding numbers_by answer_by change_numbers change_answer tick_outcome answer_of
 gives-ticked s t f h m =
     record {

@@ -1,35 +1,26 @@
 -- The shared checks: each answers in its turn.
 use Prim.Native.Nat.{ℕ, ◌≤◌, ◌<◌}
 use mathlib.Core.Bool.{Bool, true, false, not}
-use mathlib.Core.Path.{◌≡◌, sym, ap, ap₂, ◌∙◌}
-use lib.Dec.{ltb}
+use Rattle.std.specs.Prelude.{Option, Some, None, MatchOption}
+use mathlib.Core.Path.{◌≡◌, sym, ap₂, ◌∙◌}
 use borrow.Author.Tests.{le-leb, lt-leb}
 use Rattle.service.specs.State.{slot_at, max_sessions}
 use Rattle.service.specs.Checks as Service
 use Rattle.service.specs.Checks.{is_short, is_free, is_absent, is_long, refusal_of, least_output, max_message}
 use Rattle.server.specs.declared.state.Session.{Session}
 use Rattle.server.specs.declared.state.Server.{Server}
-use Rattle.server.specs.declared.checks.Given.{Given}
-use Rattle.server.specs.declared.checks.Given.TheVariants.{Absent, Is}
 use Rattle.server.specs.Memory.{Memory, state_of}
-use Rattle.server.specs.Checks.{given_of, first_of, tested_of, missing}
+use Rattle.server.specs.Checks.{option_of, first_of, tested_of, missing}
 use Rattle.server.proofs.Vacancies.{free-past}
 
 -- ---- a number that a call has or has not
 
-pub given-short : (g : Given) (n : ℕ) → g ≡ Is n → ltb n least_output ≡ is_short (given_of g)
-given-short g n e = sym (ap (λ (k : Given). is_short (given_of k)) e)
-
-pub given-long : (g : Given) (n : ℕ) → g ≡ Is n → ltb max_message n ≡ is_long (given_of g)
-given-long g n e = sym (ap (λ (k : Given). is_long (given_of k)) e)
-
-pub absent_none : (s : Server) (g : Given) → g ≡ Absent → (m : Memory) → false ≡ is_absent (state_of s m) (given_of g)
-absent_none s g e m = sym (ap (λ (k : Given). is_absent (state_of s m) (given_of k)) e)
-
-pub absent-at : (s : Server) (g : Given) (i : ℕ) → g ≡ Is i → (b : Bool) → ((m : Memory) → b ≡ is_free (slot_at (state_of s m) i))
-    → (m : Memory) → b ≡ is_absent (state_of s m) (given_of g)
-absent-at s g i e b h m =
-    h m ∙ sym (ap (λ (k : Given). is_absent (state_of s m) (given_of k)) e ∙ free-past s m i)
+-- Past the last place there is no session. P is what the test of a number gave.
+pub absent-by : (s : Server) (o : Option ℕ) (r : Bool) {P : ℕ → Type 0} → MatchOption o (r ≡ false) P
+    → ((i : ℕ) → P i → (m : Memory) → r ≡ is_free (slot_at (state_of s m) i))
+    → (m : Memory) → r ≡ is_absent (state_of s m) (option_of o)
+absent-by s None r h k m = h
+absent-by s (Some i) r h k m = k i h m ∙ sym (free-past s m i)
 
 -- By the session's own numbers.
 pub missing-past : (i : ℕ) (x : Session) → max_sessions ≤ i → true ≡ missing i x

@@ -15,7 +15,7 @@ use Rattle.service.specs.State.{fresh}
 use Rattle.service.specs.Call as Call
 use Rattle.service.specs.declared.refusal.Refusal.TheVariants.{NotAName}
 use Rattle.server.specs.declared.state.Server.{Server}
-use Rattle.server.specs.declared.starting.Started.TheVariants.{Running, Refused}
+use Rattle.std.specs.Prelude.{Ok, Err}
 use Rattle.server.specs.Memory.{Memory, with_zone, slot_of, state_of}
 use Rattle.server.specs.Numbers.{fresh_of}
 use Rattle.server.specs.Starting.{Starts}
@@ -27,7 +27,7 @@ fresh-state zone octets m e = rw e
 
 module _ (zone before : List ℕ) (b : Bool) (n : b ≡ is_name zone) where
   pub start-named : b ≡ true → length before ≡ max_name → (after : List ℕ) → after ≡ sets before 0 zone
-      → (s : Server) → s ≡ fresh_of (length zone) → Starts zone before after (Running s)
+      → (s : Server) → s ≡ fresh_of (length zone) → Starts zone before after (Ok s)
   unfolding Call.start
   start-named h l after e s f =
       let named : is_name zone ≡ true = sym n ∙ h in
@@ -38,7 +38,7 @@ module _ (zone before : List ℕ) (b : Bool) (n : b ≡ is_name zone) where
         octets = rw named e;
       }
 
-  pub start-unnamed : b ≡ false → Starts zone before before (Refused NotAName)
+  pub start-unnamed : b ≡ false → Starts zone before before (Err NotAName)
   unfolding Call.start
   start-unnamed h =
       let unnamed : is_name zone ≡ false = sym n ∙ h in

@@ -7,8 +7,8 @@ ghost use Rattle.server.specs.Changes.{decided_by};
 
 use crate::answer::Outcome;
 use crate::change::{Change, Decision, decided};
-use crate::checks::{Brought, Checked, Given, check};
-use crate::places::{Vacant, lowest_free};
+use crate::checks::{Brought, check};
+use crate::places::lowest_free;
 use crate::state::Server;
 use crate::ticking::due;
 use service::{Refusal, SessionNumber};
@@ -17,25 +17,15 @@ use service::{Refusal, SessionNumber};
 fn open_lowest(server: Server, time: u64) -> Decision
     ensures { (m : Memory) → Gives server (decided_by server time result) m [] (open_outcome (state_of server m) time) }
 {
-    match lowest_free(server) {
-        Vacant::At(i) => Decision::Takes(Change::Opens(i)),
-        Vacant::Nowhere => Decision::Refuses(Refusal::AllOpen),
-    }
+    let i = lowest_free(server).ok_or(Refusal::AllOpen)?;
+    Ok(Change::Opens(i))
 }
 
 pub fn decide_open(server: Server, time: u64) -> Decision
     ensures { (m : Memory) → Serves server m (opens time) (decided_by server time result) m [] }
 {
-    let b = Brought {
-        output: Given::Absent,
-        time,
-        session: Given::Absent,
-        message: Given::Absent,
-    };
-    match check(server, b) {
-        Checked::Refuse(why) => Decision::Refuses(why),
-        Checked::Pass => open_lowest(server, time),
-    }
+    check(server, Brought::at(time))?;
+    open_lowest(server, time)
 }
 
 pub fn decide_close(server: Server, time: u64, session: SessionNumber) -> Decision
@@ -43,30 +33,18 @@ pub fn decide_close(server: Server, time: u64, session: SessionNumber) -> Decisi
 {
     let i = session.0;
     let b = Brought {
-        output: Given::Absent,
-        time,
-        session: Given::Is(i),
-        message: Given::Absent,
+        session: Some(i),
+        ..Brought::at(time)
     };
-    match check(server, b) {
-        Checked::Refuse(why) => Decision::Refuses(why),
-        Checked::Pass => Decision::Takes(Change::Closes(i)),
-    }
+    check(server, b)?;
+    Ok(Change::Closes(i))
 }
 
 pub fn decide_tick(server: Server, time: u64) -> Decision
     ensures { (m : Memory) → Serves server m (ticks time) (decided_by server time result) m [] }
 {
-    let b = Brought {
-        output: Given::Absent,
-        time,
-        session: Given::Absent,
-        message: Given::Absent,
-    };
-    match check(server, b) {
-        Checked::Refuse(why) => Decision::Refuses(why),
-        Checked::Pass => Decision::Takes(Change::Ends(due(server, time))),
-    }
+    check(server, Brought::at(time))?;
+    Ok(Change::Ends(due(server, time)))
 }
 
 pub fn open(server: Server, time: u64) -> Outcome

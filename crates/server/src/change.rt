@@ -17,13 +17,10 @@ pub enum Change {
     Ends(Flags),
 }
 
-#[derive(Clone, Copy)]
-pub enum Decision {
-    Takes(Change),
-    // Refused: nothing changes.
-    Refuses(Refusal),
-}
+// A change, or a refusal: nothing changes.
+pub type Decision = Result<Change, Refusal>;
 
+#[tactic(auto, unfolding(crate::specs::Changes::change_answer))]
 fn change_answer(change: Change) -> Answer
     ensures { result ≡ change_answer change }
 {
@@ -34,16 +31,18 @@ fn change_answer(change: Change) -> Answer
     }
 }
 
+#[tactic(auto, unfolding(crate::specs::Changes::answer_by))]
 pub fn decision_answer(decision: Decision) -> Answer
     ensures { result ≡ answer_by decision }
 {
     match decision {
-        Decision::Takes(change) => change_answer(change),
-        Decision::Refuses(why) => Answer::Refused(why),
+        Ok(change) => change_answer(change),
+        Err(why) => Answer::Refused(why),
     }
 }
 
 // The numbers after a change at a time.
+#[tactic(auto, unfolding(crate::specs::Changes::change_numbers))]
 fn change_numbers(server: Server, t: u64, change: Change) -> Server
     ensures { result ≡ change_numbers t change server }
 {
@@ -54,12 +53,13 @@ fn change_numbers(server: Server, t: u64, change: Change) -> Server
     }
 }
 
+#[tactic(auto, unfolding(crate::specs::Changes::numbers_by))]
 fn decision_numbers(server: Server, t: u64, decision: Decision) -> Server
     ensures { result ≡ numbers_by t decision server }
 {
     match decision {
-        Decision::Takes(change) => change_numbers(server, t, change),
-        Decision::Refuses(_) => server,
+        Ok(change) => change_numbers(server, t, change),
+        Err(_) => server,
     }
 }
 

@@ -10,6 +10,7 @@ use zone::BatchFault;
 // 01: answers 1 to 5 take the time, and 10 to 20 change nothing.
 pub const LAST_ACCEPTED: u32 = 5;
 
+#[tactic(auto, unfolding(service::specs::Answer::fault_number))]
 pub fn fault_number(fault: BatchFault) -> u32
     ensures { result ≡ fault_number fault }
 {
@@ -21,6 +22,7 @@ pub fn fault_number(fault: BatchFault) -> u32
     }
 }
 
+#[tactic(auto, unfolding(service::specs::Answer::refusal_number))]
 pub fn refusal_number(refusal: Refusal) -> u32
     ensures { result ≡ refusal_number refusal }
 {
@@ -35,13 +37,12 @@ pub fn refusal_number(refusal: Refusal) -> u32
     }
 }
 
+#[tactic(auto, unfolding(service::specs::Answer::answer_number, crate::specs::Answers::answer_of))]
 pub fn answer_number(answer: Answer) -> u32
     ensures { result ≡ answer_number (answer_of answer) }
 {
     match answer {
-        Answer::Done => 1,
-        Answer::Opened(_) => 1,
-        Answer::Ended(_) => 1,
+        Answer::Done | Answer::Opened(_) | Answer::Ended(_) => 1,
         Answer::Sent(_) => 2,
         Answer::NotOurs => 3,
         Answer::Aborted => 4,

@@ -1,4 +1,7 @@
 // Why a call is refused; a refused call changes nothing.
+ghost use Rattle.std.specs.Prelude.{◌≡◌};
+ghost use Rattle.service.specs.declared.refusal.Refusal.TheVariants.{Batch};
+
 use zone::BatchFault;
 
 // A session's number, 0 to 3, a type of its own so that no message ID can be passed for it.
@@ -21,4 +24,13 @@ pub enum Refusal {
     MessageTooLong,
     // At start: the zone's name is no name.
     NotAName,
+}
+
+// A batch's fault is the refusal of the batch.
+impl From<BatchFault> for Refusal {
+    ghost from_gives = { λ fault refusal. refusal ≡ Batch fault };
+
+    fn from(fault: BatchFault) -> Refusal {
+        Refusal::Batch(fault)
+    }
 }

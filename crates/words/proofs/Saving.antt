@@ -7,6 +7,7 @@ use native.Mathlib.Nat.{mod-eq_of_lt}
 use mathlib.Core.Bool.{Bool, true, false, cond}
 use mathlib.Core.List.{List, [], ◌∷◌}
 use mathlib.Core.Path.{◌≡◌, refl, sym, ap, ◌∙◌}
+use Rattle.std.specs.Prelude.{Result, Ok, Err}
 use lib.ListN.{length, get_or, set, length-set}
 use lib.Seq.{sets, get_or-set_same, get_or-set_other}
 use lib.Dec.{eqb}
@@ -19,8 +20,6 @@ use Rattle.service.specs.declared.refusal.Refusal.{Refusal}
 use Rattle.server.specs.declared.answer.Flags.{Flags}
 use Rattle.server.specs.declared.change.Change.{Change}
 use Rattle.server.specs.declared.change.Change.TheVariants.{Opens, Closes}
-use Rattle.server.specs.declared.change.Decision.{Decision}
-use Rattle.server.specs.declared.change.Decision.TheVariants.{Takes, Refuses}
 use Rattle.server.specs.Numbers.{vacancy, newcomer, kept_of, session_at, put_session, at_time, swept_by}
 use Rattle.server.specs.Changes.{change_numbers, numbers_by}
 use Rattle.server.proofs.States.{put-past}
@@ -256,8 +255,8 @@ module _ (w w' : List ℕ) (t : ℕ) (k : Change) where
   unfolding change_numbers
   closed-saved i e x f h = h.server ∙ rw (f, e)
 
-module _ (w : List ℕ) (t : ℕ) (d : Decision) where
-  pub taken-saved : (k : Change) → d ≡ Takes k → (w' : List ℕ) → server_of w' ≡ change_numbers t k (server_of w) → SavedDecision t d w w'
+module _ (w : List ℕ) (t : ℕ) (d : Result Change Refusal) where
+  pub taken-saved : (k : Change) → d ≡ Ok k → (w' : List ℕ) → server_of w' ≡ change_numbers t k (server_of w) → SavedDecision t d w w'
   unfolding numbers_by
   taken-saved k e w' h =
       record {
@@ -265,6 +264,6 @@ module _ (w : List ℕ) (t : ℕ) (d : Decision) where
         unchanged = λ x p. absurd (let q : ◌≡◌ {A = ℕ} 0 1 = cc in omega arith);
       }
 
-  pub refused-saved : (x : Refusal) → d ≡ Refuses x → SavedDecision t d w w
+  pub refused-saved : (x : Refusal) → d ≡ Err x → SavedDecision t d w w
   unfolding numbers_by
   refused-saved x e = record { server = rw e; unchanged = λ y p. refl }

@@ -1,11 +1,10 @@
 -- How a server's numbers stand in the 28 words that a C host lends: four of the server, and six of each session.
-use Rattle.std.specs.Prelude.{ℕ, ◌+◌, ◌*◌, ◌%◌, ◌<◌, Bool, cond, not, List, [], ◌∷◌, ◌≡◌, get_or, set, eqb}
+use Rattle.std.specs.Prelude.{ℕ, ◌+◌, ◌*◌, ◌%◌, ◌<◌, Bool, cond, not, List, [], ◌∷◌, ◌≡◌, get_or, set, eqb, Result, Err}
 use Rattle.std.proofs.lemmas.List.Edits.{sets}
 use Rattle.server.specs.declared.state.Session.{Session}
 use Rattle.server.specs.declared.state.Server.{Server}
 use Rattle.service.specs.declared.refusal.Refusal.{Refusal}
-use Rattle.server.specs.declared.change.Decision.{Decision}
-use Rattle.server.specs.declared.change.Decision.TheVariants.{Refuses}
+use Rattle.server.specs.declared.change.Change.{Change}
 use Rattle.server.specs.Numbers.{kept_of, session_at, put_session, at_time}
 use Rattle.server.specs.Changes.{numbers_by}
 
@@ -94,9 +93,9 @@ abbrev pub ended_at : ℕ → Bool → ℕ → Server → Server
 ended_at t ended i s = at_time t (put_session i (kept_of ended (session_at i s)) s)
 
 -- What is saved of a decision at a time: they are read as the server that it leaves. A refusal leaves the very words.
-pub record SavedDecision (t : ℕ) (d : Decision) (w w' : List ℕ) : Type 0 where
+pub record SavedDecision (t : ℕ) (d : Result Change Refusal) (w w' : List ℕ) : Type 0 where
   pub server : server_of w' ≡ numbers_by t d (server_of w)
-  pub unchanged : (x : Refusal) → d ≡ Refuses x → w' ≡ w
+  pub unchanged : (x : Refusal) → d ≡ Err x → w' ≡ w
 
 -- What is saved: the server's words, which are read as that server again.
 pub record Saved (s : Server) (w : List ℕ) : Type 0 where

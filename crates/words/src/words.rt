@@ -244,7 +244,7 @@ fn save_change(words: &mut Words, t: u64, change: Change)
 pub fn save_decision(words: &mut Words, t: u64, decision: Decision)
     ensures { SavedDecision t decision words.old words.new }
 {
-    if let Decision::Takes(change) = decision {
+    if let Ok(change) = decision {
         save_change(words, t, change);
     }
 }

@@ -3,4 +3,4 @@ use Rattle.server.proofs.Vacancies.{is-free-at}
 use Rattle.server.proofs.places.is_free.Goals as goal
 
 pub returns : goal.returns
-returns c = is-free-at _ _ _ c.session_at-s.ensures
+returns c = is-free-at _ _ _ c.session_at.ensures

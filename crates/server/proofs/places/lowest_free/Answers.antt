@@ -1,16 +1,17 @@
--- `server::places::lowest_free` meets its contract. Assumes nothing.
-use native.Mathlib.Omega.{arith}
-use Rattle.server.proofs.Vacancies.{busy-none, busy-found, busy-turn, busy-all}
+-- `server::places::lowest_free` meets its contract: the first place that is free. Assumes nothing.
+use Rattle.std.proofs.Common.{ℕ, Bool, refl, sym, rules, tests, ◌∙◌}
+use Rattle.std.proofs.lemmas.Iterator.{YieldsList-from_range}
+use Rattle.std.proofs.lemmas.Iterator.Adapters.{option_map_id}
+use Rattle.std.proofs.lemmas.Iterator.Search.{find_from_yields_List}
+use Rattle.service.specs.State.{slot_at}
+use Rattle.service.specs.Checks.{is_free}
+use Rattle.server.specs.Memory.{state_of}
+use Rattle.server.proofs.Vacancies.{lowest-found}
 use Rattle.server.proofs.places.lowest_free.Goals as goal
 
-pub loop-i-init : goal.loop-i-init
-loop-i-init c = busy-none _
-
-pub returns-then-is_free : goal.returns-then-is_free
-returns-then-is_free c = busy-found _ _ c.loop-i.invariant (omega arith) _ c.is_free.ensures c.if-is_free.true
-
-pub loop-i-preserved : goal.loop-i-preserved
-loop-i-preserved c = busy-turn _ _ c.loop-i.invariant (omega arith) _ c.is_free.ensures c.if-is_free.false
-
 pub returns : goal.returns
-returns c = busy-all _ _ c.loop-i.invariant (omega arith)
+returns c m =
+    let s = c.args.server in
+    let free_at : ℕ → Bool = λ i. is_free (slot_at (state_of s m) i) in
+    let found = find_from_yields_List free_at _ _ c.find.result c.find.ensures.ran (YieldsList-from_range 0 4 4 refl refl) (λ x b q k. search (rules, tests)) in
+    lowest-found s m c.find.result (sym (option_map_id c.find.result) ∙ found)
