@@ -3,7 +3,7 @@
 use Prim.Native.Nat.{ℕ}
 use mathlib.Core.Path.{◌≡◌, refl}
 use mathlib.Core.List.{List, [], ◌∷◌}
-use mathlib.Core.Option.{none, some}
+use Rattle.std.specs.Prelude.{Some, None}
 use Rattle.wire.specs.Name.{same_octets}
 use Rattle.script.specs.Digit.{digit_value, digit_octet}
 use Rattle.script.specs.Number.{digits, in64, value_of, plain, number, decimal_in, decimal}
@@ -11,7 +11,7 @@ use Rattle.script.specs.Hex.{hex_bytes, hex_octets}
 use Rattle.script.specs.Fields.{fields, tabbed}
 use Rattle.script.specs.Verb.{verb_of, verb_text}
 use Rattle.script.specs.Line.{Line, timed, spoken, line_of_fields, line_of}
-use Rattle.script.specs.Output.{session_octets, bytes_octets, line_octets}
+use Rattle.script.specs.Output.{verb_octets, session_octets, bytes_octets, line_octets}
 use Rattle.script.specs.declared.verb.Verb.TheVariants.{Open, Message, Batch}
 
 -- The octets that the example writes as hexadecimal digits: a batch, a message, and what is sent.
@@ -69,16 +69,16 @@ abbrev open-answer : List ℕ
 open-answer =
     111 ∷ 112 ∷ 101 ∷ 110 ∷ 9 ∷ 49 ∷ 9 ∷ 48 ∷ 9 ∷ 45 ∷ 10 ∷ []
 
-pub open-answer-written : line_octets Open 1 (some 0) none ≡ open-answer
-unfolding line_octets tabbed verb_text decimal decimal_in digit_octet session_octets bytes_octets hex_octets
+pub open-answer-written : line_octets (Some Open) 1 (Some 0) None ≡ open-answer
+unfolding line_octets tabbed verb_octets verb_text decimal decimal_in digit_octet session_octets bytes_octets hex_octets
 open-answer-written = refl
 
 abbrev batch-answer : List ℕ
 batch-answer =
     98 ∷ 97 ∷ 116 ∷ 99 ∷ 104 ∷ 9 ∷ 49 ∷ 9 ∷ 45 ∷ 9 ∷ 45 ∷ 10 ∷ []
 
-pub batch-answer-written : line_octets Batch 1 none none ≡ batch-answer
-unfolding line_octets tabbed verb_text decimal decimal_in digit_octet session_octets bytes_octets hex_octets
+pub batch-answer-written : line_octets (Some Batch) 1 None None ≡ batch-answer
+unfolding line_octets tabbed verb_octets verb_text decimal decimal_in digit_octet session_octets bytes_octets hex_octets
 batch-answer-written = refl
 
 abbrev message-answer : List ℕ
@@ -91,8 +91,8 @@ message-answer =
     48 ∷ 49 ∷ 48 ∷ 48 ∷ 48 ∷ 48 ∷ 48 ∷ 48 ∷ 55 ∷ 56 ∷ 48 ∷ 48 ∷ 48 ∷ 52 ∷ 99 ∷ 48 ∷ 48 ∷ 48 ∷ 48 ∷ 50 ∷ 48 ∷ 49 ∷
     10 ∷ []
 
-pub message-answer-written : line_octets Message 2 (some 0) (some sent) ≡ message-answer
-unfolding line_octets tabbed verb_text decimal decimal_in digit_octet session_octets bytes_octets hex_octets
+pub message-answer-written : line_octets (Some Message) 2 (Some 0) (Some sent) ≡ message-answer
+unfolding line_octets tabbed verb_octets verb_text decimal decimal_in digit_octet session_octets bytes_octets hex_octets
 message-answer-written = refl
 
 -- ---- at the edges of the format

@@ -6,11 +6,10 @@ use mathlib.Core.List.{List, [], ◌∷◌, ◌++◌, append-nil}
 use native.Mathlib.Numerals.{add-one}
 use native.Mathlib.Omega.{arith}
 use lib.ListN.{length, take, drop}
-use lib.Seq.{take_all}
 use lib.Dec.{ltb, eqb}
 use borrow.Author.Tests.{ltb-true, ltb-false}
 use Rattle.wire.proofs.Writes.{drop-slice}
-use Rattle.script.specs.Fields.{tab, fields_with, fields, tabs_before, tabbed, until, First}
+use Rattle.script.specs.Fields.{tab, fields_with, fields, tabs_before, tabbed, until}
 
 -- ---- parting at the first tab
 
@@ -45,14 +44,10 @@ fields-some (b ∷ s) = by-test (eqb b tab) (fields s)
     by-test false (f ∷ fs) = omega arith
 
 -- The same as slices have it: up to a place, and behind it.
-module _ (s : List ℕ) (i : ℕ) (r : First tab s i) where
-  pub parted : i < length s → fields s ≡ take i s ∷ fields (take (length s - (i + 1)) (drop (i + 1) s))
-  parted h =
-      fields-parted s (omega (arith, r.is)) ∙ ap (λ (j : ℕ). take j s ∷ fields (drop (suc j) s)) (sym r.is)
-      ∙ ap (λ (l : List ℕ). take i s ∷ fields l) (ap (λ (j : ℕ). drop j s) (sym (add-one i)) ∙ sym (drop-slice s (i + 1)))
-
-  pub parted-none : length s ≤ i → fields s ≡ s ∷ []
-  parted-none h = fields-whole s (omega (arith, r.is))
+pub parted : (s : List ℕ) (i : ℕ) → (i ≡ until tab s) × (i < length s) → fields s ≡ take i s ∷ fields (take (length s - (i + 1)) (drop (i + 1) s))
+parted s i h =
+    fields-parted s (omega (arith, h.0, h.1)) ∙ ap (λ (j : ℕ). take j s ∷ fields (drop (suc j) s)) (sym h.0)
+    ∙ ap (λ (l : List ℕ). take i s ∷ fields l) (ap (λ (j : ℕ). drop j s) (sym (add-one i)) ∙ sym (drop-slice s (i + 1)))
 
 -- ---- fields joined
 
@@ -100,13 +95,3 @@ module _ (P : List (List ℕ) → Type 0) (s : List ℕ) where
           let rest : List ℕ = drop (suc (until tab s)) s in
           subst⁻¹ P (fields-parted s (ltb-true (until tab s) (length s) e)) (more_of (take (until tab s) s) (fields rest) (fields-some rest))
       by-test false e = subst⁻¹ P (fields-whole s (ltb-false (until tab s) (length s) e)) one
-
--- The first field, whatever follows it.
-pub first_field : (P : List (List ℕ) → Type 0) (s : List ℕ) (i : ℕ) → First tab s i → ((fs : List (List ℕ)) → P (take i s ∷ fs)) → P (fields s)
-first_field P s i r k = by-test (ltb i (length s)) refl
-  where
-    by-test : (t : Bool) → ltb i (length s) ≡ t → P (fields s)
-    by-test true e = subst⁻¹ P (parted s i r (ltb-true i (length s) e)) (k (fields (take (length s - (i + 1)) (drop (i + 1) s))))
-    by-test false e =
-        let h : length s ≤ i = ltb-false i (length s) e in
-        subst⁻¹ P (parted-none s i r h ∙ ap (λ (f : List ℕ). f ∷ []) (sym (take_all i s h))) (k [])

@@ -1,48 +1,30 @@
--- The loop that looks for the first octet of a kind.
-use Prim.Native.Nat.{ℕ, suc, ◌+◌, ◌≤◌, ◌<◌}
-use mathlib.Core.Path.{◌≡◌, ap}
-use mathlib.Core.Bool.{Bool, true, false, cond}
+-- Where the first octet of a kind stands.
+use Prim.Native.Nat.{ℕ, suc, ◌+◌}
+use mathlib.Core.Path.{◌≡◌, refl}
+use mathlib.Core.Bool.{Bool, true, false, cond, not}
 use mathlib.Core.List.{List, [], ◌∷◌}
-use native.Mathlib.Numerals.{add-one}
 use native.Mathlib.Omega.{arith}
-use lib.ListN.{length, drop, get_or, drop_of_length-le}
-use lib.Seq.{drop-cons}
-use lib.Dec.{eqb}
-use borrow.Author.Tests.{eq-eqb, ne_eqb}
+use lib.ListN.{length}
+use lib.Dec.{eqb, ltb}
+use borrow.Author.Tests.{ltb-true, ltb-false}
+use Rattle.std.specs.Prelude.{Option, Some, None}
+use Rattle.std.specs.List.{position_or_len, prefix_len}
 use Rattle.script.specs.Fields.{until, First}
 
-pub until-within : (x : ℕ) (s : List ℕ) → until x s ≤ length s
+until-position : (x : ℕ) (s : List ℕ) → position_or_len (λ b. eqb b x) s ≡ until x s
 unfolding until
-until-within x [] = omega arith
-until-within x (b ∷ s) = by-test (eqb b x) (until-within x s)
+until-position x [] = refl
+until-position x (b ∷ s) = by-test (eqb b x) (until-position x s)
   where
-    by-test : (t : Bool) → until x s ≤ length s → cond t 0 (suc (until x s)) ≤ suc (length s)
-    by-test true h = omega arith
-    by-test false h = omega arith
+    by-test : (t : Bool) → prefix_len (λ b. not (eqb b x)) s ≡ until x s → cond (not t) (1 + prefix_len (λ b. not (eqb b x)) s) 0 ≡ cond t 0 (suc (until x s))
+    by-test true e = refl
+    by-test false e = omega arith
 
-pub record Sought (x : ℕ) (s : List ℕ) (i : ℕ) : Type 0 where
-  pub rest : until x s ≡ i + until x (drop i s)
-
-pub sought-none : (x : ℕ) (s : List ℕ) → Sought x s 0
-sought-none x s = record { rest = omega arith }
-
-module _ (x : ℕ) (s : List ℕ) (i : ℕ) (r : Sought x s i) where
-  pub sought-end : length s ≤ i → First x s i
-  unfolding until
-  sought-end h =
-      let e : until x (drop i s) ≡ 0 = ap (until x) (drop_of_length-le s h) in
-      record { is = omega (arith, r.rest); within = omega (arith, r.rest, until-within x s) }
-
-  next : i < length s → until x (drop i s) ≡ cond (eqb (get_or s i 0) x) 0 (suc (until x (drop (suc i) s)))
-  unfolding until
-  next h = ap (until x) (drop-cons s i 0 h)
-
-  pub sought-found : i < length s → get_or s i 0 ≡ x → First x s i
-  sought-found h k =
-      let e : until x (drop i s) ≡ 0 = rw (next h, eq-eqb (get_or s i 0) x k) in
-      record { is = omega (arith, r.rest); within = omega arith }
-
-  pub sought-turn : i < length s → (get_or s i 0 ≡ x → ⊥) → Sought x s (i + 1)
-  sought-turn h k =
-      let e : until x (drop i s) ≡ suc (until x (drop (suc i) s)) = rw (next h, ne_eqb (get_or s i 0) x k) in
-      record { rest = rw (add-one i) (omega (arith, r.rest)) }
+-- What std's `position` finds.
+pub first-found : (x : ℕ) (s : List ℕ) (r : Option ℕ)
+    → r ≡ cond (ltb (position_or_len (λ b. eqb b x) s) (length s)) (Some (position_or_len (λ b. eqb b x) s)) None → First x s r
+first-found x s r e = by-test (ltb (until x s) (length s)) refl (rw (until-position x s) at e)
+  where
+    by-test : (t : Bool) → ltb (until x s) (length s) ≡ t → r ≡ cond (ltb (until x s) (length s)) (Some (until x s)) None → First x s r
+    by-test true k f = rw (f, k) (refl, ltb-true (until x s) (length s) k)
+    by-test false k f = rw (f, k) (ltb-false (until x s) (length s) k)

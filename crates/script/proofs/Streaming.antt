@@ -1,15 +1,14 @@
 -- The input cut into lines: what is held of a line, and that cutting off what is too long makes no difference.
-use Prim.Native.Nat.{ℕ, zero, suc, ◌+◌, ◌-◌, ◌≤◌, ◌<◌, min}
+use Prim.Native.Nat.{ℕ, zero, suc, ◌+◌, ◌≤◌, ◌<◌, min}
 use mathlib.Core.Path.{◌≡◌, sym, ap, ap₂, ◌∙◌}
 use mathlib.Core.Bool.{Bool, true, false}
 use mathlib.Core.List.{List, [], ◌∷◌, ◌++◌}
-use native.Mathlib.Nat.{sub-zero}
 use native.Mathlib.Omega.{arith}
 use lib.ListN.{length, take, drop, drop_of_length-le}
-use lib.Seq.{sets}
+use lib.Seq.{sets, take_all}
 use borrow.Author.Tests.{lt-ltb, le-ltb}
 use Rattle.wire.proofs.Writes.{sets-cons}
-use Rattle.script.specs.Fields.{until, First}
+use Rattle.script.specs.Fields.{until}
 use Rattle.script.specs.Output.{lf}
 use Rattle.script.specs.Code.{Written}
 use Rattle.script.specs.Stream.{room, kept, Piece, piece_of, Cuts}
@@ -33,30 +32,35 @@ pub piece-same : {h g r s : List ℕ} {d e : Bool} → h ≡ g → r ≡ s → d
     → ◌≡◌ {A = Piece} (record { held = h; rest = r; ended = d }) (record { held = g; rest = s; ended = e })
 piece-same {h} {g} {r} {s} {d} {e} p q t = rw (p, q, t)
 
-module _ (input line : List ℕ) (held n : ℕ) (f : First lf input n) (long : length line ≡ room) (line' : List ℕ) (r : ℕ) (w : Written line held (take (n - 0) input) line' r) where
-  held-is : take r line' ≡ kept (take held line ++ take (until lf input) input)
+module _ (input line : List ℕ) (held : ℕ) (long : length line ≡ room) (line' : List ℕ) (r : ℕ) where
+  held-is : (text : List ℕ) → Written line held text line' r → text ≡ take (until lf input) input → take r line' ≡ kept (take held line ++ take (until lf input) input)
   unfolding kept
-  held-is =
-      ap₂ (λ (k : ℕ) (l : List ℕ). take k l) w.next w.whole ∙ take-written-behind line held (take (n - 0) input)
-      ∙ ap₂ (λ (k m : ℕ). take k (take held line ++ take m input)) long (sub-zero n ∙ f.is)
+  held-is text w e =
+      ap₂ (λ (k : ℕ) (l : List ℕ). take k l) w.next w.whole ∙ take-written-behind line held text
+      ∙ ap₂ (λ (k : ℕ) (l : List ℕ). take k (take held line ++ l)) long e
 
-  pub cut-ended : n < length input → Cuts input line held line' (record { held = r; used = n + 1; ended = true })
+  pub cut-ended : (n : ℕ) → n ≡ until lf input → n < length input → Written line held (take n input) line' r
+      → Cuts input line held line' (record { held = r; used = n + 1; ended = true })
   unfolding piece_of
-  cut-ended h =
-      let e : n + 1 ≡ suc (until lf input) = omega (arith, f.is) in
+  cut-ended n f h w =
+      let e : n + 1 ≡ suc (until lf input) = omega arith in
       record {
-        piece = piece-same held-is (ap (λ (k : ℕ). drop k input) e) (sym (lt-ltb (until lf input) (length input) (omega (arith, f.is))));
+        piece = piece-same (held-is (take n input) w (ap (λ (k : ℕ). take k input) f)) (ap (λ (k : ℕ). drop k input) e)
+            (sym (lt-ltb (until lf input) (length input) (omega arith)));
         within = omega arith;
         onward = λ k. omega arith;
       }
 
-  pub cut-going : length input ≤ n → Cuts input line held line' (record { held = r; used = n; ended = false })
+  pub cut-going : length input ≤ until lf input → Written line held input line' r
+      → Cuts input line held line' (record { held = r; used = length input; ended = false })
   unfolding piece_of
-  cut-going h =
+  cut-going h w =
       record {
-        piece = piece-same held-is
-            (drop_of_length-le input {i = n} h ∙ sym (drop_of_length-le input {i = suc (until lf input)} (omega (arith, f.is))))
-            (sym (le-ltb (until lf input) (length input) (omega (arith, f.is))));
-        within = f.within;
-        onward = λ k. omega arith;
+        piece = piece-same (held-is input w (sym (take_all (until lf input) input h)))
+            (drop_of_length-le input {i = length input} (omega arith) ∙ sym (drop_of_length-le input {i = suc (until lf input)} (omega arith)))
+            (sym (le-ltb (until lf input) (length input) h));
+        within = omega arith;
+        onward = λ k. k;
       }
+
+pub ruleset cutting = (cut-ended, cut-going)

@@ -1,5 +1,5 @@
 -- 01, "The replay program": "fields parted by tabs".
-use Rattle.std.specs.Prelude.{ℕ, suc, ◌≤◌, Bool, true, false, cond, ◌≡◌, List, [], ◌∷◌, ◌++◌, length, eqb}
+use Rattle.std.specs.Prelude.{ℕ, suc, ◌≤◌, ◌<◌, Bool, true, false, cond, ◌≡◌, List, [], ◌∷◌, ◌++◌, length, eqb, Option, MatchOption}
 
 abbrev pub tab : ℕ
 tab = 9
@@ -29,6 +29,6 @@ unfoldable pub until : ℕ → List ℕ → ℕ
 until x [] = 0
 until x (b ∷ l) = cond (eqb b x) 0 (suc (until x l))
 
-pub record First (x : ℕ) (s : List ℕ) (i : ℕ) : Type 0 where
-  pub is : i ≡ until x s
-  pub within : i ≤ length s
+-- Where the first x stands, if one does.
+abbrev pub First : ℕ → List ℕ → Option ℕ → Type 0
+First x s r = MatchOption r (length s ≤ until x s) (λ i. (i ≡ until x s) × (i < length s))

@@ -1,14 +1,13 @@
 -- What a line of input is. 01, "The replay program": "Standard input lines, fields parted by tabs: open time; close time s;
 -- msg time s hex; batch time hex; tick time"; "A line over 32,768 bytes, LF aside, or unreadable".
-use Rattle.std.specs.Prelude.{ℕ, ◌^◌, ◌<◌, ◌≡◌, true, cond, List, [], ◌∷◌, length, leb}
-use Rattle.std.proofs.Math.Option.{Option, none, some}
+use Rattle.std.specs.Prelude.{ℕ, ◌^◌, ◌<◌, ◌≡◌, true, cond, List, [], ◌∷◌, length, leb, Option, Some, None}
 use Rattle.std.proofs.Math.Pow.{are_bytes}
 use Rattle.script.specs.Number.{number, decimal}
 use Rattle.script.specs.Hex.{hex_bytes, hex_octets}
 use Rattle.script.specs.Fields.{fields, tabbed}
 use Rattle.script.specs.Verb.{verb_of, verb_text}
 use Rattle.script.specs.declared.verb.Verb.{Verb}
-use Rattle.script.specs.declared.verb.Verb.TheVariants.{Open, Close, Message, Batch, Tick, Unknown}
+use Rattle.script.specs.declared.verb.Verb.TheVariants.{Open, Close, Message, Batch, Tick}
 
 -- A time t in milliseconds, a session number s as it is written, and octets.
 pub data Line : Type 0 where
@@ -22,14 +21,10 @@ pub data Line : Type 0 where
 abbrev pub max_line : ℕ
 max_line = 32768
 
--- A field that has to be a number, or octets, makes the whole line unreadable where it is none.
-abbrev pub with_number : Option ℕ → (ℕ → Line) → Line
-with_number none k = Line.unreadable
-with_number (some x) k = k x
-
-abbrev pub with_bytes : Option (List ℕ) → (List ℕ → Line) → Line
-with_bytes none k = Line.unreadable
-with_bytes (some l) k = k l
+-- A field that has to be a verb, a number, or octets, makes the whole line unreadable where it is none.
+abbrev pub with_field : {A : Type 0} → Option A → (A → Line) → Line
+with_field None k = Line.unreadable
+with_field (Some x) k = k x
 
 -- What a verb, its time and the fields behind them are: exactly the fields that the verb has.
 unfoldable pub timed : Verb → ℕ → List (List ℕ) → Line
@@ -38,25 +33,24 @@ timed Open t (f ∷ fs) = Line.unreadable
 timed Tick t [] = Line.ticking t
 timed Tick t (f ∷ fs) = Line.unreadable
 timed Close t [] = Line.unreadable
-timed Close t (s ∷ []) = with_number (number s) (λ n. Line.closing t n)
+timed Close t (s ∷ []) = with_field (number s) (λ n. Line.closing t n)
 timed Close t (s ∷ f ∷ fs) = Line.unreadable
 timed Message t [] = Line.unreadable
 timed Message t (s ∷ []) = Line.unreadable
-timed Message t (s ∷ h ∷ []) = with_number (number s) (λ n. with_bytes (hex_bytes h) (λ l. Line.message t n l))
+timed Message t (s ∷ h ∷ []) = with_field (number s) (λ n. with_field (hex_bytes h) (λ l. Line.message t n l))
 timed Message t (s ∷ h ∷ f ∷ fs) = Line.unreadable
 timed Batch t [] = Line.unreadable
-timed Batch t (h ∷ []) = with_bytes (hex_bytes h) (λ l. Line.batch t l)
+timed Batch t (h ∷ []) = with_field (hex_bytes h) (λ l. Line.batch t l)
 timed Batch t (h ∷ f ∷ fs) = Line.unreadable
-timed Unknown t fs = Line.unreadable
 
 -- A verb, and the fields behind it, of which the first is the time.
 unfoldable pub spoken : Verb → List (List ℕ) → Line
 spoken v [] = Line.unreadable
-spoken v (t ∷ fs) = with_number (number t) (λ n. timed v n fs)
+spoken v (t ∷ fs) = with_field (number t) (λ n. timed v n fs)
 
 unfoldable pub line_of_fields : List (List ℕ) → Line
 line_of_fields [] = Line.unreadable
-line_of_fields (v ∷ fs) = spoken (verb_of v) fs
+line_of_fields (v ∷ fs) = with_field (verb_of v) (λ w. spoken w fs)
 
 -- The line that octets are, without the LF that ends it.
 unfoldable pub line_of : List ℕ → Line

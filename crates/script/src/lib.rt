@@ -9,9 +9,9 @@ mod stream;
 mod verb;
 mod writer;
 
-pub use number::{Number, read_number};
-pub use reader::{Bytes, Command, Decoded, read_bytes, read_line};
+pub use number::read_number;
+pub use reader::{Bytes, Command, read_bytes, read_line};
 pub use search::first;
 pub use stream::{Line, Taken, cut};
 pub use verb::Verb;
-pub use writer::{SessionField, place, put_hex, write_line};
+pub use writer::{OutputLine, place, put_hex, write_line};

@@ -1,66 +1,43 @@
 // Numbers in decimal digits, and what one digit stands for.
-ghost use Rattle.std.specs.Prelude.{◌≡◌};
+ghost use Rattle.std.specs.Prelude.{◌<◌, ◌≡◌, IfSome};
 ghost use Rattle.script.specs.Digit.{digit_value};
 ghost use Rattle.script.specs.Number.{number as number_of, value_of};
-ghost use Rattle.script.specs.Code.{number_read};
 
-// What a field of digits stands for, if it is a number of at most 64 bits.
-#[derive(Clone, Copy)]
-pub enum Number {
-    Value(u64),
-    NoNumber,
-}
-
-// 16 for an octet that is no digit.
-pub fn digit(b: u8) -> u8
-    ensures { result ≡ digit_value b }
+#[tactic(auto, unfolding(crate::specs::Digit::digit_value))]
+pub fn digit(b: u8) -> Option<u8>
+    ensures value { result ≡ digit_value b }
+    ensures small { IfSome result (λ d. d < 16) }
 {
-    if b < b'0' {
-        return 16;
+    match b {
+        b'0'..=b'9' => Some(b - b'0'),
+        b'a'..=b'f' => Some(b - b'a' + 10),
+        _ => None,
     }
-    if b <= b'9' {
-        return b - b'0';
-    }
-    if b < b'a' {
-        return 16;
-    }
-    if b <= b'f' {
-        return b - b'a' + 10;
-    }
-    16
 }
 
 // The value of decimal digits, whether or not a zero leads them.
-fn value(s: &[u8]) -> Number
-    ensures { result ≡ number_read (value_of s.now) }
+#[tactic(auto, using(crate::proofs::Numbers::summed))]
+fn value(s: &[u8]) -> Option<u64>
+    ensures { result ≡ value_of s.now }
 {
     let mut x: u64 = 0;
-    let mut i = 0;
-    while i < s.len() {
-        let d = digit(s[i]) as u64;
+    for b in s {
+        let d = digit(*b)?;
         if 9 < d {
-            return Number::NoNumber;
+            return None;
         }
-        if (u64::MAX - d) / 10 < x {
-            return Number::NoNumber;
-        }
-        x = x * 10 + d;
-        i += 1;
+        x = x.checked_mul(10)?.checked_add(u64::from(d))?;
     }
-    Number::Value(x)
+    Some(x)
 }
 
-pub fn read_number(s: &[u8]) -> Number
-    ensures { result ≡ number_read (number_of s.now) }
+// What a field of digits stands for, if it is a number of at most 64 bits.
+#[tactic(auto, using(crate::proofs::Numbers::numbers))]
+pub fn read_number(s: &[u8]) -> Option<u64>
+    ensures { result ≡ number_of s.now }
 {
-    if s.len() == 0 {
-        return Number::NoNumber;
-    }
-    if s[0] != b'0' {
-        return value(s);
-    }
-    if 1 < s.len() {
-        return Number::NoNumber;
+    if s.is_empty() || s[0] == b'0' && 1 < s.len() {
+        return None;
     }
     value(s)
 }

@@ -1,55 +1,43 @@
 // A line of input read as a command (01, "The replay program").
-ghost use Rattle.std.specs.Prelude.{◌*◌, ◌≤◌, ◌≡◌, length, []};
+ghost use Rattle.std.specs.Prelude.{◌*◌, ◌≤◌, ◌≡◌, length, take, [], option_map};
 ghost use Rattle.script.specs.Hex.{hex_bytes, hex_bytes_in};
-ghost use Rattle.script.specs.Code.{decoded_bytes, command_line, Is};
+ghost use Rattle.script.specs.Code.{command_line, Is};
 ghost use Rattle.script.specs.Fields.{fields};
 ghost use Rattle.script.specs.Line.{max_line, line_of, timed, spoken};
 ghost use Rattle.script.specs.declared.verb.Verb.TheVariants.{Close, Message, Batch};
 
-use crate::number::{Number, digit, read_number};
+use crate::number::{digit, read_number};
 use crate::search::first;
 use crate::verb::{Verb, verb_of};
 
 // Room for the bytes of any line: half of 32,768 hexadecimal digits.
 pub type Bytes = [u8; 16384];
 
-// So many octets stand at the front of the lent memory; or the digits are no whole octets.
-#[derive(Clone, Copy)]
-pub enum Decoded {
-    Bytes(usize),
-    NoBytes,
-}
-
-fn decode(s: &[u8], bytes: &mut [u8]) -> Decoded
+// How many octets stand at the front of the lent memory then; none where the digits are no whole octets.
+#[tactic(auto, using(crate::proofs::Bytes::decoding))]
+fn decode(s: &[u8], bytes: &mut [u8]) -> Option<usize>
     requires { length s.now ≤ 2 * length bytes.old }
-    ensures { decoded_bytes result bytes.new ≡ hex_bytes s.now }
+    ensures { option_map (λ n. take n bytes.new) result ≡ hex_bytes s.now }
 {
     if s.len() % 2 != 0 {
-        return Decoded::NoBytes;
+        return None;
     }
     let n = s.len() / 2;
-    let mut i = 0;
-    while i < n {
-        let high = digit(s[2 * i]);
-        let low = digit(s[2 * i + 1]);
-        if 15 < high {
-            return Decoded::NoBytes;
-        }
-        if 15 < low {
-            return Decoded::NoBytes;
-        }
+    for i in 0..n {
+        let high = digit(s[2 * i])?;
+        let low = digit(s[2 * i + 1])?;
         bytes[i] = high * 16 + low;
-        i += 1;
     }
-    Decoded::Bytes(n)
+    Some(n)
 }
 
 // The same for memory of any length: octets that it has no room for are not read.
-pub fn read_bytes(s: &[u8], bytes: &mut [u8]) -> Decoded
-    ensures { decoded_bytes result bytes.new ≡ hex_bytes_in (length bytes.old) s.now }
+#[tactic(auto, using(crate::proofs::Bytes::room))]
+pub fn read_bytes(s: &[u8], bytes: &mut [u8]) -> Option<usize>
+    ensures { option_map (λ n. take n bytes.new) result ≡ hex_bytes_in (length bytes.old) s.now }
 {
     if bytes.len() < s.len() - s.len() / 2 {
-        return Decoded::NoBytes;
+        return None;
     }
     decode(s, bytes)
 }
@@ -63,63 +51,53 @@ pub enum Command {
     Message(u64, u64, usize),
     Batch(u64, usize),
     Tick(u64),
-    Unreadable,
 }
 
 const MAX_LINE: usize = 32_768;
 
 // A verb and its time, and nothing behind them.
-fn read_short(verb: Verb, time: u64) -> Command
+#[tactic(auto, unfolding(crate::specs::Line::timed))]
+fn read_short(verb: Verb, time: u64) -> Option<Command>
     ensures { Is result (timed verb time []) }
 {
     match verb {
-        Verb::Open => Command::Open(time),
-        Verb::Tick => Command::Tick(time),
-        Verb::Close => Command::Unreadable,
-        Verb::Message => Command::Unreadable,
-        Verb::Batch => Command::Unreadable,
-        Verb::Unknown => Command::Unreadable,
+        Verb::Open => Some(Command::Open(time)),
+        Verb::Tick => Some(Command::Tick(time)),
+        Verb::Close | Verb::Message | Verb::Batch => None,
     }
 }
 
-fn read_close(time: u64, s: &[u8]) -> Command
+#[tactic(auto, using(crate::proofs::Lines::closing))]
+fn read_close(time: u64, s: &[u8]) -> Option<Command>
     ensures { Is result (timed Close time (fields s.now)) }
 {
-    let Number::Value(session) = read_number(s) else {
-        return Command::Unreadable;
-    };
-    Command::Close(time, session)
+    let session = read_number(s)?;
+    Some(Command::Close(time, session))
 }
 
-fn read_batch(time: u64, s: &[u8], bytes: &mut Bytes) -> Command
+#[tactic(auto, using(crate::proofs::Lines::batching))]
+fn read_batch(time: u64, s: &[u8], bytes: &mut Bytes) -> Option<Command>
     requires { length s.now ≤ max_line }
     ensures { command_line result bytes.new ≡ timed Batch time (fields s.now) }
 {
-    let Decoded::Bytes(n) = decode(s, bytes) else {
-        return Command::Unreadable;
-    };
-    Command::Batch(time, n)
+    let n = decode(s, bytes)?;
+    Some(Command::Batch(time, n))
 }
 
-fn read_message(time: u64, s: &[u8], bytes: &mut Bytes) -> Command
+#[tactic(auto, using(crate::proofs::Lines::messaging))]
+fn read_message(time: u64, s: &[u8], bytes: &mut Bytes) -> Option<Command>
     requires { length s.now ≤ max_line }
     ensures { command_line result bytes.new ≡ timed Message time (fields s.now) }
 {
-    let t = first(s, b'\t');
-    if s.len() <= t {
-        return Command::Unreadable;
-    }
-    let Number::Value(session) = read_number(&s[0..t]) else {
-        return Command::Unreadable;
-    };
-    let Decoded::Bytes(n) = decode(&s[t + 1..], bytes) else {
-        return Command::Unreadable;
-    };
-    Command::Message(time, session, n)
+    let t = first(s, b'\t')?;
+    let session = read_number(&s[..t])?;
+    let n = decode(&s[t + 1..], bytes)?;
+    Some(Command::Message(time, session, n))
 }
 
 // A verb and its time, and the fields behind them.
-fn read_timed(verb: Verb, time: u64, s: &[u8], bytes: &mut Bytes) -> Command
+#[tactic(auto, using(crate::proofs::Lines::alone))]
+fn read_timed(verb: Verb, time: u64, s: &[u8], bytes: &mut Bytes) -> Option<Command>
     requires { length s.now ≤ max_line }
     ensures { command_line result bytes.new ≡ timed verb time (fields s.now) }
 {
@@ -127,37 +105,32 @@ fn read_timed(verb: Verb, time: u64, s: &[u8], bytes: &mut Bytes) -> Command
         Verb::Close => read_close(time, s),
         Verb::Message => read_message(time, s, bytes),
         Verb::Batch => read_batch(time, s, bytes),
-        Verb::Open => Command::Unreadable,
-        Verb::Tick => Command::Unreadable,
-        Verb::Unknown => Command::Unreadable,
+        Verb::Open | Verb::Tick => None,
     }
 }
 
 // A verb, and the fields behind it.
-fn read_spoken(verb: Verb, s: &[u8], bytes: &mut Bytes) -> Command
+#[tactic(auto, using(crate::proofs::Lines::speaking))]
+fn read_spoken(verb: Verb, s: &[u8], bytes: &mut Bytes) -> Option<Command>
     requires { length s.now ≤ max_line }
     ensures { command_line result bytes.new ≡ spoken verb (fields s.now) }
 {
-    let t = first(s, b'\t');
-    let Number::Value(time) = read_number(&s[0..t]) else {
-        return Command::Unreadable;
+    let Some(t) = first(s, b'\t') else {
+        return read_short(verb, read_number(s)?);
     };
-    if s.len() <= t {
-        return read_short(verb, time);
-    }
+    let time = read_number(&s[..t])?;
     read_timed(verb, time, &s[t + 1..], bytes)
 }
 
 // A line without its LF. What stands in the memory behind the octets that the command names is left over.
-pub fn read_line(line: &[u8], bytes: &mut Bytes) -> Command
+#[tactic(auto, using(crate::proofs::Lines::lining))]
+pub fn read_line(line: &[u8], bytes: &mut Bytes) -> Option<Command>
     ensures { command_line result bytes.new ≡ line_of line.now }
 {
     if MAX_LINE < line.len() {
-        return Command::Unreadable;
+        return None;
     }
-    let t = first(line, b'\t');
-    if line.len() <= t {
-        return Command::Unreadable;
-    }
-    read_spoken(verb_of(&line[0..t]), &line[t + 1..], bytes)
+    let t = first(line, b'\t')?;
+    let verb = verb_of(&line[..t])?;
+    read_spoken(verb, &line[t + 1..], bytes)
 }

@@ -19,21 +19,20 @@ pub struct Taken {
 }
 
 // Takes the input up to the line's LF, or all of it, onto the line that is held in so many octets.
+#[tactic(auto, using(crate::proofs::Streaming::cutting))]
 pub fn cut(input: &[u8], line: &mut Line, held: usize) -> Taken
     ensures { Cuts input.now line.old held line.new result }
 {
-    let n = first(input, b'\n');
-    let kept = put(line, held, &input[0..n]);
-    if n < input.len() {
-        return Taken {
-            held: kept,
+    match first(input, b'\n') {
+        Some(n) => Taken {
+            held: put(line, held, &input[..n]),
             used: n + 1,
             ended: true,
-        };
-    }
-    Taken {
-        held: kept,
-        used: n,
-        ended: false,
+        },
+        None => Taken {
+            held: put(line, held, input),
+            used: input.len(),
+            ended: false,
+        },
     }
 }

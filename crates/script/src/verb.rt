@@ -1,10 +1,9 @@
 // The verbs of the lines.
 ghost use Rattle.std.specs.Prelude.{◌≡◌};
-ghost use Rattle.script.specs.Verb.{verb_of};
+ghost use Rattle.script.specs.Verb.{verb_text, verb_of};
 
 use wire::same_octets;
 
-// `Unknown` is any other word on a line that is read, and `?` on one that is written.
 #[derive(Clone, Copy)]
 pub enum Verb {
     Open,
@@ -12,26 +11,33 @@ pub enum Verb {
     Message,
     Batch,
     Tick,
-    Unknown,
 }
 
-pub fn verb_of(s: &[u8]) -> Verb
+impl Verb {
+    #[tactic(auto, unfolding(crate::specs::Verb::verb_text))]
+    pub fn text(self) -> &'static [u8]
+        ensures { result.now ≡ verb_text self }
+    {
+        match self {
+            Verb::Open => b"open",
+            Verb::Close => b"close",
+            Verb::Message => b"msg",
+            Verb::Batch => b"batch",
+            Verb::Tick => b"tick",
+        }
+    }
+}
+
+const VERBS: [Verb; 5] = [
+    Verb::Open,
+    Verb::Close,
+    Verb::Message,
+    Verb::Batch,
+    Verb::Tick,
+];
+
+pub fn verb_of(s: &[u8]) -> Option<Verb>
     ensures { result ≡ verb_of s.now }
 {
-    if same_octets(s, b"open") {
-        return Verb::Open;
-    }
-    if same_octets(s, b"close") {
-        return Verb::Close;
-    }
-    if same_octets(s, b"msg") {
-        return Verb::Message;
-    }
-    if same_octets(s, b"batch") {
-        return Verb::Batch;
-    }
-    if same_octets(s, b"tick") {
-        return Verb::Tick;
-    }
-    Verb::Unknown
+    VERBS.iter().copied().find(|v| same_octets(s, v.text()))
 }

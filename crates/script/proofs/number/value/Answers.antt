@@ -1,27 +1,19 @@
 -- `script::number::value` meets its contract. Assumes nothing.
-use borrow.Author.Rules.{rules}
-use Rattle.script.proofs.Numbers.{summed-none, summed-end, summed-other, summed-large, summed_turn}
+use Rattle.std.proofs.Common.{arith}
+use Rattle.script.proofs.Numbers.{summed-other, summed-large}
 use Rattle.script.proofs.number.value.Goals as goal
 
-ruleset laws = (summed-none, summed-end, summed-other, summed-large, summed_turn, rules)
-
-pub loop-i-init : goal.loop-i-init
-loop-i-init c = search laws
-
-pub digit-d-requires : goal.digit-d-requires
-digit-d-requires c = search laws
-
 pub returns-then-d-gt9 : goal.returns-then-d-gt9
-returns-then-d-gt9 c = search laws
+returns-then-d-gt9 c = summed-other _ _ _ c.loop-b.invariant c.loop-b-test.true _ c.digit.ensures.value _ c.in_ok-d.was c.if-d-gt9.true
 
-pub returns-then-d-x : goal.returns-then-d-x
-returns-then-d-x c = search laws
+pub returns-in_err-checked_mul : goal.returns-in_err-checked_mul
+returns-in_err-checked_mul c =
+    let e = summed-large _ _ _ c.loop-b.invariant c.loop-b-test.true _ c.digit.ensures.value _ c.in_ok-d.was c.if-d-gt9.false
+    (omega (arith, c.in_err-checked_mul.ensures)) in
+    cc
 
-pub loop-i-smaller : goal.loop-i-smaller
-loop-i-smaller c = search laws
-
-pub loop-i-preserved : goal.loop-i-preserved
-loop-i-preserved c = search laws
-
-pub returns : goal.returns
-returns c = search laws
+pub returns-in_err-x : goal.returns-in_err-x
+returns-in_err-x c =
+    let e = summed-large _ _ _ c.loop-b.invariant c.loop-b-test.true _ c.digit.ensures.value _ c.in_ok-d.was c.if-d-gt9.false
+    (omega (arith, c.in_err-x.ensures, c.in_ok-checked_mul.ensures, c.from.ensures)) in
+    cc

@@ -1,11 +1,6 @@
--- `script::number::value` meets its contract. The loop's invariant: the first `i` digits stand for `x`. Assumes nothing.
-use Prim.Native.Nat.{◌-◌}
-use lib.ListN.{length}
+-- `script::number::value` meets its contract. The loop's invariant: the digits so far stand for `x`. Assumes nothing.
 use Rattle.script.proofs.Numbers.{Summed}
 use Rattle.script.proofs.number.value.Given as goal
 
-abbrev pub invariant-loop-i : goal.invariant-loop-i
-invariant-loop-i l = Summed l.s l.x l.i
-
-abbrev pub decreases-loop-i : goal.decreases-loop-i
-decreases-loop-i l = length l.s - l.i
+abbrev pub invariant-loop-b : goal.invariant-loop-b
+invariant-loop-b l = Summed l.s l.x l.b-index

@@ -1,21 +1,12 @@
 -- `script::search::first` meets its contract. Assumes nothing.
-use borrow.Author.Rules.{rules}
-use Rattle.script.proofs.Searching.{sought-none, sought-end, sought-found, sought-turn}
+use Rattle.std.proofs.Common.{rules, tests, eqb}
+use Rattle.std.proofs.lemmas.Iterator.{YieldsList-from_slice}
+use Rattle.std.proofs.lemmas.Iterator.Search.{position_from_yields_List}
+use Rattle.script.proofs.Searching.{first-found}
 use Rattle.script.proofs.search.first.Goals as goal
 
-ruleset laws = (sought-none, sought-end, sought-found, sought-turn, rules)
-
-pub loop-i-init : goal.loop-i-init
-loop-i-init c = search laws
-
-pub returns-then-s-i : goal.returns-then-s-i
-returns-then-s-i c = search laws
-
-pub loop-i-smaller : goal.loop-i-smaller
-loop-i-smaller c = search laws
-
-pub loop-i-preserved : goal.loop-i-preserved
-loop-i-preserved c = search laws
-
 pub returns : goal.returns
-returns c = search laws
+returns c =
+    let s = c.args.s.now in
+    let x = c.args.octet in
+    first-found x s _ (position_from_yields_List (λ b. eqb b x) _ _ _ c.position.ensures.ran (YieldsList-from_slice s cc) (λ y b q k. search (rules, tests)))

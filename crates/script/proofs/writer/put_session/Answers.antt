@@ -1,18 +1,9 @@
 -- `script::writer::put_session` meets its contract. Assumes nothing.
 use borrow.Author.Rules.{rules}
-use Rattle.script.proofs.Writing.{session-written, no-session-written}
+use Rattle.script.specs.Output.{session_octets}
+use Rattle.script.proofs.Writing.{tab-then}
 use Rattle.script.proofs.writer.put_session.Goals as goal
 
-ruleset laws = (session-written, no-session-written, rules)
-
-pub put-a-requires : goal.put-a-requires
-put-a-requires c = search laws
-
-pub put_number-requires : goal.put_number-requires
-put_number-requires c = search laws
-
-pub returns-in-Session : goal.returns-in-Session
-returns-in-Session c = search laws
-
-pub returns-in-NoSession : goal.returns-in-NoSession
-returns-in-NoSession c = search laws
+pub returns-in-Some : goal.returns-in-Some
+unfolding session_octets
+returns-in-Some c = tab-then _ _ _ _ _ _ _ _ c.put-a.ensures c.put_number.ensures (search rules)
