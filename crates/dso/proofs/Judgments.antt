@@ -6,7 +6,7 @@ use native.Mathlib.Omega.{arith}
 use mathlib.Core.Path.{◌≡◌, refl, sym, ap, subst, subst⁻¹, ◌∙◌}
 use mathlib.Core.Bool.{Bool, true, false, cond, not, ◌||◌}
 use mathlib.Core.List.{List}
-use mathlib.Core.Option.{Option, none, some}
+use Rattle.std.specs.Prelude.{Option, None, Some}
 use lib.ListN.{length, take, drop, length-take, length-drop}
 use lib.Seq.{take-take}
 use lib.Dec.{eqb, ltb}
@@ -51,8 +51,8 @@ module _ (id k : ℕ) (v : List ℕ) where
       either (Sound id k v) (eqb (length v) 8) (Keepalive (mid id)) (Reply (mid id) FormErr) (λ e. (refl, h, is)) (λ e. (refl, h, tt))
 
   asks-sound : (o : Option ℕ) → name_length v ≡ o → k ≡ 0x40 → (id ≡ 0 → ⊥) → Sound id k v (asks id (length v) o)
-  asks-sound none e is h = (refl, h, tt)
-  asks-sound (some n) e is h =
+  asks-sound None e is h = (refl, h, tt)
+  asks-sound (Some n) e is h =
       either (Sound id k v) (eqb (length v) (n + 4)) (Subscribe (mid id) (question n)) (Reply (mid id) FormErr)
       (λ d. (refl, h, record { n = n; named = e; size = eqb-true (length v) (n + 4) d; places = refl }, is))
       (λ d. (refl, h, tt))
@@ -64,8 +64,8 @@ module _ (id k : ℕ) (v : List ℕ) where
       (λ e. (h, refl, eqb-true (length v) 2 e)) (λ e. tt)
 
   disputes-sound : (o : Option ℕ) → name_length v ≡ o → id ≡ 0 → Sound id k v (disputes v o)
-  disputes-sound none e h = tt
-  disputes-sound (some n) e h =
+  disputes-sound None e h = tt
+  disputes-sound (Some n) e h =
       let all : Bool = eqb (field 2 (drop n v)) 255 || eqb (field 2 (drop (n + 2) v)) 255 in
       let r : Judgment = Reconfirm (disputed n (length v)) in
       either (Sound id k v) (ltb (length v) (n + 4)) Abort (cond all Abort r) (λ d. tt)
@@ -112,7 +112,7 @@ judgment-sound m = concluded-sound (message_id m) (first_type m) (first_data m) 
 
 -- ---- the parts in the message
 
-module _ (m : List ℕ) (n : ℕ) (named : name_length (first_data m) ≡ some n) (size : n + 4 ≤ length (first_data m)) where
+module _ (m : List ℕ) (n : ℕ) (named : name_length (first_data m) ≡ Some n) (size : n + 4 ≤ length (first_data m)) where
   shorter : length (first_data m) ≤ field 2 (drop 14 m)
   shorter = simp length-take (omega arith)
 

@@ -2,7 +2,6 @@
 pub mod Bench
 pub mod Judgments
 pub mod Openings
-pub mod Reading
 pub mod Responses
 pub mod Tlvs
 pub mod Meant

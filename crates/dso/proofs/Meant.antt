@@ -2,7 +2,7 @@
 use Prim.Native.Nat.{ℕ}
 use native.Mathlib.Omega.{arith}
 use mathlib.Core.List.{List, ◌++◌, append_assoc}
-use mathlib.Core.Option.{some}
+use Rattle.std.specs.Prelude.{Some}
 use mathlib.Core.Path.{◌≡◌, sym, ap, ◌∙◌}
 use lib.ListN.{take, drop, take-append-drop}
 use Rattle.wire.specs.Field.{field}
@@ -23,7 +23,7 @@ pub record Asking (m : List ℕ) (id : MessageId) (q : QuestionPlaces) : Type 0 
   pub same_id : id.0 ≡ message_id m
   pub first : first_type m ≡ subscribe_type
   pub size : ℕ
-  pub named : name_length (drop data_start m) ≡ some size
+  pub named : name_length (drop data_start m) ≡ Some size
   pub places : q ≡ question size
 
 -- What is known of a message that is judged so. A reply with an error is to the message's own ID.
@@ -41,7 +41,7 @@ module _ (m : List ℕ) where
   size = field 2 (drop 14 m)
 
   -- A name at the front of the data is a name at the data's place in the message: what follows a name doesn't matter.
-  named-there : (n : ℕ) → name_length (first_data m) ≡ some n → name_length (drop data_start m) ≡ some n
+  named-there : (n : ℕ) → name_length (first_data m) ≡ Some n → name_length (drop data_start m) ≡ Some n
   named-there n e =
       let l = drop data_start m in
       ap name_length

@@ -3,37 +3,38 @@
 use Prim.Native.Nat.{ℕ, ◌+◌, ◌≤◌, ◌-◌}
 use native.Mathlib.Nat.{add-sub_cancel_left}
 use native.Mathlib.Omega.{arith}
-use mathlib.Core.Path.{◌≡◌, refl, sym, ap, ◌∙◌}
+use mathlib.Core.Path.{◌≡◌, refl, sym, ap, ap₂, ◌∙◌}
 use mathlib.Core.Bool.{Bool, true, false, cond, not, true≢false, false≢true}
-use mathlib.Core.List.{List}
-use mathlib.Core.Option.{Option, none, some}
+use mathlib.Core.List.{List, [], ◌∷◌}
 use lib.ListN.{length, take, drop, length-drop}
 use lib.Seq.{length-take-le}
 use lib.Dec.{ltb, eqb}
+use Rattle.std.specs.Prelude.{Option, Some, None, Result, Ok, Err}
 use Rattle.wire.specs.Field.{field}
 use Rattle.dso.specs.Header.{message_id, no_records, opcode, is_response}
-use Rattle.dso.specs.Tlv.{Tlv, also, tlvs, is_some, filled, tlv_place, tlv_at, placed, stepped}
+use Rattle.dso.specs.Tlv.{Tlv, also, tlvs, is_some, filled, tlv_place, TlvStep, tlv_at, placed, stepped, Steps}
 use Rattle.dso.specs.Judge.{Opening, Opening.settled, Opening.primary, bad_form, first_of, form_of, opening, by_type, judgment, is_keepalive, judged}
-use Rattle.dso.specs.Steps.{start_of}
+use Rattle.std.specs.Result.{result_ok}
+use Rattle.std.specs.Bool.{then_some}
+use Rattle.std.specs.Option.{ok_or}
+use Rattle.dso.specs.Steps.{first_at, first_place, start_of}
+use Rattle.dso.specs.declared.reader.CutShort.{CutShort}
+use Rattle.dso.specs.declared.reader.Reader.{Reader}
 use Rattle.dso.specs.declared.judgment.Judgment.{Judgment}
 use Rattle.dso.specs.declared.judgment.Judgment.TheVariants.{NotOurs, Abort}
 use Rattle.dso.specs.declared.judgment.Judged.{Judged}
 use Rattle.dso.specs.declared.reader.TlvPlace.{TlvPlace}
-use Rattle.dso.specs.declared.reader.TlvStep.{TlvStep}
-use Rattle.dso.specs.declared.reader.TlvStep.TheVariants.{Whole, End, Cut}
-use Rattle.dso.specs.declared.opening.Start.{Start}
-use Rattle.dso.specs.declared.opening.Start.TheVariants.{Settled, Primary}
-use Rattle.dso.proofs.Tlvs.{here, whole_here, tlvs-at}
+use Rattle.dso.proofs.Tlvs.{fills, here, whole_here, tlvs-at}
 
 -- Step 3 by the first TLV, and the TLVs behind it.
 module _ (id : ℕ) (t : Tlv) where
   first_some : (o : Option (List Tlv)) → is_some o ≡ true → first_of id (also t o) ≡ primary t
-  first_some none f = absurd (false≢true f)
-  first_some (some ts) f = refl
+  first_some None f = absurd (false≢true f)
+  first_some (Some ts) f = refl
 
   first-none : (o : Option (List Tlv)) → is_some o ≡ false → first_of id (also t o) ≡ settled (bad_form id)
-  first-none none f = refl
-  first-none (some ts) f = absurd (true≢false f)
+  first-none None f = refl
+  first-none (Some ts) f = absurd (true≢false f)
 
 module _ (m : List ℕ) where
   abbrev bad : Opening
@@ -43,45 +44,45 @@ module _ (m : List ℕ) where
   abbrev opens : TlvStep → Opening
   opens s = first_of (message_id m) (stepped m s)
 
-  form-counted : no_records m ≡ false → form_of m ≡ bad
+  counted : no_records m ≡ false → form_of m ≡ bad
   unfolding form_of
-  form-counted w = rw w
+  counted w = rw w
 
   form-at : no_records m ≡ true → form_of m ≡ opens (tlv_at m 12)
   unfolding form_of
   form-at w = rw w (ap (first_of (message_id m)) (tlvs-at m 12))
 
-  opens-primary : (t : TlvPlace) → filled (drop t.next m) ≡ true → opens (Whole t) ≡ primary (placed m t)
+  opens-primary : (t : TlvPlace) → filled (drop t.next m) ≡ true → opens (Some (Ok t)) ≡ primary (placed m t)
   unfolding filled
   opens-primary t f = first_some (message_id m) (placed m t) (tlvs (drop t.next m)) f
 
-  opens-bad : (t : TlvPlace) → filled (drop t.next m) ≡ false → opens (Whole t) ≡ bad
+  opens-bad : (t : TlvPlace) → filled (drop t.next m) ≡ false → opens (Some (Ok t)) ≡ bad
   unfolding filled
   opens-bad t f = first-none (message_id m) (placed m t) (tlvs (drop t.next m)) f
 
 -- What step 3 comes to: bad form, or a whole first TLV decides.
 pub data Formed (m : List ℕ) : Type 0 where
   ill : form_of m ≡ settled (bad_form (message_id m)) → Formed m
-  well : (t : TlvPlace) → tlv_at m 12 ≡ Whole t → form_of m ≡ primary (placed m t) → Formed m
+  well : (t : TlvPlace) → tlv_at m 12 ≡ Some (Ok t) → form_of m ≡ primary (placed m t) → Formed m
 
 pub formed : (m : List ℕ) → Formed m
 formed m = go (no_records m) refl
   where
-    behind : no_records m ≡ true → (t : TlvPlace) → tlv_at m 12 ≡ Whole t → (f : Bool) → filled (drop t.next m) ≡ f → Formed m
+    behind : no_records m ≡ true → (t : TlvPlace) → tlv_at m 12 ≡ Some (Ok t) → (f : Bool) → filled (drop t.next m) ≡ f → Formed m
     behind w t e true f = well t e (form-at m w ∙ ap (opens m) e ∙ opens-primary m t f)
     behind w t e false f = ill (form-at m w ∙ ap (opens m) e ∙ opens-bad m t f)
 
     first : no_records m ≡ true → (s : TlvStep) → tlv_at m 12 ≡ s → Formed m
-    first w (Whole t) e = behind w t e (filled (drop t.next m)) refl
-    first w End e = ill (form-at m w ∙ ap (opens m) e)
-    first w Cut e = ill (form-at m w ∙ ap (opens m) e)
+    first w (Some (Ok t)) e = behind w t e (filled (drop t.next m)) refl
+    first w None e = ill (form-at m w ∙ ap (opens m) e)
+    first w (Some (Err x)) e = ill (form-at m w ∙ ap (opens m) e)
 
     go : (a : Bool) → no_records m ≡ a → Formed m
     go true w = first w (tlv_at m 12) refl
-    go false w = ill (form-counted m w)
+    go false w = ill (counted m w)
 
 -- The first TLV as it stands in the message.
-module _ (m : List ℕ) (t : TlvPlace) (e : tlv_at m 12 ≡ Whole t) where
+module _ (m : List ℕ) (t : TlvPlace) (e : tlv_at m 12 ≡ Some (Ok t)) where
   pub first-here : t ≡ here m 12
   first-here = (whole_here m 12 t e).0
 
@@ -101,27 +102,59 @@ module _ (m : List ℕ) (t : TlvPlace) (e : tlv_at m 12 ≡ Whole t) where
       rw (size, first-here)
 
 -- The same, as code holds it.
-pub start-counted : (m : List ℕ) (j : Judgment) → j ≡ bad_form (message_id m) → no_records m ≡ false → Settled j ≡ start_of (form_of m)
-start-counted m j p w = rw (form-counted m w) (ap Settled p)
+filled-first : (t : Tlv) (o : Option (List Tlv)) → then_some (is_some o) (first_at t) ≡ first_place (also t o)
+filled-first t None = refl
+filled-first t (Some ts) = refl
 
-module _ (m : List ℕ) (s : TlvStep) (w : no_records m ≡ true) (e : s ≡ tlv_at m 12) where
-  form-by : form_of m ≡ opens m s
-  form-by = form-at m w ∙ ap (opens m) (sym e)
+-- A reader's first step behind the header.
+module _ (m : List ℕ) (r : Reader) (message : r.message.now ≡ m) (at : r.at ≡ 12) (x : TlvStep) (s : Reader) (step : Steps r x s) where
+  read : x ≡ tlv_at m 12
+  read = step.reads ∙ ap₂ tlv_at message at
 
-  pub start-primary : (t : TlvPlace) → s ≡ Whole t → filled (drop t.next m) ≡ true → Primary t ≡ start_of (form_of m)
-  start-primary t d f = rw (form-by ∙ ap (opens m) d ∙ opens-primary m t f) (ap Primary (sym (first-place m t (sym e ∙ d))))
+  behind : first_place (tlvs (drop 12 m)) ≡ first_place (stepped m x)
+  behind = ap first_place (tlvs-at m 12 ∙ ap (stepped m) (sym read))
 
-  pub start-unfilled : (j : Judgment) → j ≡ bad_form (message_id m) → (t : TlvPlace) → s ≡ Whole t → filled (drop t.next m) ≡ false → Settled j ≡ start_of (form_of m)
-  start-unfilled j p t d f = rw (form-by ∙ ap (opens m) d ∙ opens-bad m t f) (ap Settled p)
+  onward : (t : TlvPlace) → x ≡ Some (Ok t) → fills s ≡ filled (drop t.next m)
+  onward t e = let goes = step.goes in let same = step.same in rw (goes, same, message, e)
 
-  -- No whole TLV stands behind the header: the end does, or one that is cut short.
-  pub start_none : (j : Judgment) → j ≡ bad_form (message_id m) → ((t : TlvPlace) → s ≡ Whole t → ⊥) → Settled j ≡ start_of (form_of m)
-  start_none j p k = rw (form-by ∙ not-whole s k) (ap Settled p)
+  pub first-end : x ≡ None → None ≡ first_place (tlvs (drop 12 m))
+  first-end e = rw (behind, e)
+
+  pub first-cut : (y : Result TlvPlace CutShort) → x ≡ Some y → result_ok y ≡ None → None ≡ first_place (tlvs (drop 12 m))
+  first-cut (Ok t) e h = let z : ◌≡◌ {A = ℕ} 0 1 = cc in absurd (omega arith)
+  first-cut (Err c) e h = rw (behind, e)
+
+  pub first-whole : (y : Result TlvPlace CutShort) (t : TlvPlace) → x ≡ Some y → result_ok y ≡ Some t → then_some (fills s) t ≡ first_place (tlvs (drop 12 m))
+  unfolding filled
+  first-whole (Ok t) u e h =
+      let same : u ≡ t = cc in
+      ap₂ then_some (onward t e) (same ∙ sym (first-place m t (sym read ∙ e)))
+      ∙ filled-first (placed m t) (tlvs (drop t.next m))
+      ∙ sym (behind ∙ ap (λ (y : TlvStep). first_place (stepped m y)) e)
+  first-whole (Err c) u e h = let z : ◌≡◌ {A = ℕ} 0 1 = cc in absurd (omega arith)
+
+-- Step 3 from the first TLV, where there is one.
+module _ (m : List ℕ) (o : Option TlvPlace) (first : o ≡ first_place (tlvs (drop 12 m))) where
+  start-by : (id : ℕ) (ts : Option (List Tlv)) → start_of (first_of id ts) ≡ ok_or (first_place ts) (bad_form id)
+  start-by id None = refl
+  start-by id (Some []) = refl
+  start-by id (Some (t ∷ ts)) = refl
+
+  pub form-first : (t : TlvPlace) → o ≡ Some t → no_records m ≡ true → Ok t ≡ start_of (form_of m)
+  unfolding form_of
+  form-first t e w = sym (rw w (start-by (message_id m) (tlvs (drop 12 m)) ∙ ap (λ (x : Option TlvPlace). ok_or x (bad_form (message_id m))) (sym first ∙ e)))
+
+  pub form-counted : no_records m ≡ false → Err (bad_form (message_id m)) ≡ start_of (form_of m)
+  unfolding form_of
+  form-counted w = rw w
+
+  pub form-bad : o ≡ None → Err (bad_form (message_id m)) ≡ start_of (form_of m)
+  unfolding form_of
+  form-bad e = go (no_records m) refl
     where
-      not-whole : (x : TlvStep) → ((t : TlvPlace) → x ≡ Whole t → ⊥) → opens m x ≡ settled (bad_form (message_id m))
-      not-whole (Whole t) z = absurd (z t refl)
-      not-whole End z = refl
-      not-whole Cut z = refl
+      go : (b : Bool) → no_records m ≡ b → Err (bad_form (message_id m)) ≡ start_of (form_of m)
+      go true w = sym (rw w (start-by (message_id m) (tlvs (drop 12 m)) ∙ ap (λ (x : Option TlvPlace). ok_or x (bad_form (message_id m))) (sym first ∙ e)))
+      go false w = form-counted w
 
 -- Where steps 1 to 3 leave the first TLV to decide, it stands whole behind the header.
 module _ (m : List ℕ) (x : Tlv) (o : opening m ≡ primary x) where
@@ -135,33 +168,33 @@ module _ (m : List ℕ) (x : Tlv) (o : opening m ≡ primary x) where
   unfolding opening
   form-is = past (ltb (length m) 12) (not (eqb (opcode m) 6)) (is_response m) (form_of m) o
 
-  pub opening-first : (t : TlvPlace) × (tlv_at m 12 ≡ Whole t) × (x ≡ placed m t)
+  pub opening-first : (t : TlvPlace) × (tlv_at m 12 ≡ Some (Ok t)) × (x ≡ placed m t)
   opening-first = go (formed m)
     where
-      go : Formed m → (t : TlvPlace) × (tlv_at m 12 ≡ Whole t) × (x ≡ placed m t)
+      go : Formed m → (t : TlvPlace) × (tlv_at m 12 ≡ Some (Ok t)) × (x ≡ placed m t)
       go (ill f) = let z : ◌≡◌ {A = ℕ} 0 1 = cc (form-is) in absurd (omega arith)
       go (well t e f) = (t, e, cc (form-is))
 
-primary-of : (o : Opening) (r : Start) (t : TlvPlace) → r ≡ start_of o → r ≡ Primary t → (x : Tlv) × (o ≡ primary x) × (tlv_place x.kind (length x.value) 12 ≡ t)
+primary-of : (o : Opening) (r : Result TlvPlace Judgment) (t : TlvPlace) → r ≡ start_of o → r ≡ Ok t → (x : Tlv) × (o ≡ primary x) × (tlv_place x.kind (length x.value) 12 ≡ t)
 primary-of (settled j) r t e p = let z : ◌≡◌ {A = ℕ} 0 1 = cc in absurd (omega arith)
 primary-of (primary x) r t e p = (x, refl, cc)
 
-settled-of : (o : Opening) (r : Start) (j : Judgment) → r ≡ start_of o → r ≡ Settled j → o ≡ settled j
+settled-of : (o : Opening) (r : Result TlvPlace Judgment) (j : Judgment) → r ≡ start_of o → r ≡ Err j → o ≡ settled j
 settled-of (settled i) r j e p = cc
 settled-of (primary t) r j e p = let z : ◌≡◌ {A = ℕ} 0 1 = cc in absurd (omega arith)
 
 -- The whole judgment from the opening, as code holds it.
-pub judged-settled : (m : List ℕ) (r : Start) (j : Judgment) → r ≡ start_of (opening m) → r ≡ Settled j → ◌≡◌ {A = Judged} (record { judgment = j; keepalive = false }) (judged m)
+pub judged-settled : (m : List ℕ) (r : Result TlvPlace Judgment) (j : Judgment) → r ≡ start_of (opening m) → r ≡ Err j → ◌≡◌ {A = Judged} (record { judgment = j; keepalive = false }) (judged m)
 unfolding judged judgment is_keepalive
 judged-settled m r j e p = rw (settled-of (opening m) r j e p)
 
-module _ (m : List ℕ) (r : Start) (t : TlvPlace) (e : r ≡ start_of (opening m)) (p : r ≡ Primary t) where
-  found : (tlv_at m 12 ≡ Whole t) × (opening m ≡ primary (placed m t))
+module _ (m : List ℕ) (r : Result TlvPlace Judgment) (t : TlvPlace) (e : r ≡ start_of (opening m)) (p : r ≡ Ok t) where
+  found : (tlv_at m 12 ≡ Some (Ok t)) × (opening m ≡ primary (placed m t))
   found =
       let here = primary-of (opening m) r t e p in
       let first = opening-first m here.0 here.1 in
       let same : first.0 ≡ t = sym (first-place m first.0 first.1) ∙ ap (λ (y : Tlv). tlv_place y.kind (length y.value) 12) (sym first.2) ∙ here.2 in
-      (first.1 ∙ ap Whole same, here.1 ∙ ap primary (first.2 ∙ ap (placed m) same))
+      (first.1 ∙ ap (λ (x : TlvPlace). Some (Ok x)) same, here.1 ∙ ap primary (first.2 ∙ ap (placed m) same))
 
   pub primary-fits : t.value.start + t.value.len ≤ length m
   primary-fits = first_fits m t found.0

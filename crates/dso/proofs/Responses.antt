@@ -5,13 +5,13 @@ use native.Mathlib.Omega.{arith}
 use mathlib.Core.Path.{◌≡◌, refl, sym, ap, ap₂, ◌∙◌}
 use mathlib.Core.Bool.{true}
 use mathlib.Core.List.{List, [], ◌∷◌, ◌++◌, append-nil, append_assoc}
-use mathlib.Core.Option.{some}
+use Rattle.std.specs.Prelude.{Some}
 use lib.ListN.{length, drop, length-append}
 use lib.Seq.{sets, take_at, drop_at, drop-drop}
 use lib.Dec.{lit<}
 use borrow.Author.Tests.{le-leb}
 use Rattle.wire.specs.Field.{field, octets}
-use Rattle.wire.proofs.Fields.{field-octets, octets-two, length-octets}
+use Rattle.wire.proofs.Fields.{field-octets, length-octets}
 use Rattle.wire.proofs.Writes.{sets-append}
 use Rattle.dso.specs.Header.{message_id, flags, is_response, opcode, z_bits, rcode, no_records}
 use Rattle.dso.specs.Tlv.{Tlv, tlv_front, also, tlvs_from, tlvs}
@@ -100,7 +100,7 @@ module _ (t : Tlv) (rest : List ℕ) (k : t.kind < 65536) (v : length t.value < 
       let fits : 4 + field 2 (drop 2 l) ≤ length l = rw length-field (omega (arith, size)) in
       ap tlvs shape ∙ tlvs-step l fits ∙ ap₂ (λ (x : Tlv) (r : List ℕ). also x (tlvs r)) front rest-is
 
-pub tlvs-octets : (ts : List Tlv) → Fitting ts → tlvs (tlvs_octets ts) ≡ some ts
+pub tlvs-octets : (ts : List Tlv) → Fitting ts → tlvs (tlvs_octets ts) ≡ Some ts
 unfolding tlvs_octets tlvs tlvs_from
 tlvs-octets [] h = refl
 tlvs-octets (t ∷ ts) h = tlv-octets t (tlvs_octets ts) h.0 h.1 ∙ ap (also t) (tlvs-octets ts h.2)
@@ -164,14 +164,18 @@ zeros : octets 8 0 ≡ 0 ∷ 0 ∷ 0 ∷ 0 ∷ 0 ∷ 0 ∷ 0 ∷ 0 ∷ []
 unfolding octets
 zeros = refl
 
--- What `write_header` and `write_tlv` put together octet by octet.
-pub header-octets : (n id fl : ℕ) → n < 65536 → id < 65536 → fl < 65536
-    → n / 256 ∷ n % 256 ∷ id / 256 ∷ id % 256 ∷ fl / 256 ∷ fl % 256 ∷ 0 ∷ 0 ∷ 0 ∷ 0 ∷ 0 ∷ 0 ∷ 0 ∷ 0 ∷ [] ≡ octets 2 n ++ header id fl
-unfolding header
-header-octets n id fl a b d = rw (← octets-two n a, ← octets-two id b, ← octets-two fl d, zeros)
+-- The octets of a field of 16 and of 32 bits, one by one, as the library writes a number's bytes.
+pub octets_16 : (n : ℕ) → octets 2 n ≡ n / 256 % 256 ∷ n % 256 ∷ []
+unfolding octets
+octets_16 n = let one : n / 1 ≡ n = omega arith in rw one
 
-pub tlv-head-octets : (k n : ℕ) → k < 65536 → n < 65536 → k / 256 ∷ k % 256 ∷ n / 256 ∷ n % 256 ∷ [] ≡ octets 2 k ++ octets 2 n
-tlv-head-octets k n a b = rw (← octets-two k a, ← octets-two n b)
+pub octets_32 : (n : ℕ) → octets 4 n ≡ n / 16777216 % 256 ∷ n / 65536 % 256 ∷ n / 256 % 256 ∷ n % 256 ∷ []
+unfolding octets
+octets_32 n = let one : n / 1 ≡ n = omega arith in rw one
+
+pub header_octets : (id flags : ℕ) → header id flags ≡ id / 256 % 256 ∷ id % 256 ∷ flags / 256 % 256 ∷ flags % 256 ∷ 0 ∷ 0 ∷ 0 ∷ 0 ∷ 0 ∷ 0 ∷ 0 ∷ 0 ∷ []
+unfolding header
+header_octets id flags = rw (octets_16 id, octets_16 flags, zeros)
 
 -- One write behind another.
 pub sets_then : (o p q : List ℕ) (i n : ℕ) (a b : List ℕ) → length a ≡ n → p ≡ sets o i a → q ≡ sets p (i + n) b → q ≡ sets o i (a ++ b)
@@ -210,11 +214,11 @@ module _ (id : ℕ) (r : Response) (k n : ℕ) (v : List ℕ) (one : response_tl
   unfolding response_octets framed
   with-tlv = rw whole_length (rw body (simp append_assoc))
 
-  pub response-written : (o p q s : List ℕ) (fl : ℕ) → fl ≡ response_flags (response_code r) → p ≡ sets o 0 (octets 2 (16 + n) ++ header id fl) → q ≡ sets p 14 (octets 2 k ++ octets 2 n) → s ≡ sets q 18 v
-      → s ≡ sets o 0 (response_octets id r)
-  response-written o p q s fl f e g h =
+  pub response-written : (o p q s : List ℕ) (fl kind : ℕ) → fl ≡ response_flags (response_code r) → kind ≡ k → p ≡ sets o 0 (octets 2 (16 + n) ++ header id fl) → q ≡ sets p 14 (octets 2 kind ++ octets 2 n)
+      → s ≡ sets q 18 v → s ≡ sets o 0 (response_octets id r)
+  response-written o p q s fl kind f is e g h =
       let a : List ℕ = octets 2 (16 + n) ++ header id fl in
-      let front : q ≡ sets o 0 (a ++ (octets 2 k ++ octets 2 n)) = sets_then o p q 0 14 a (octets 2 k ++ octets 2 n) (prefix-length (16 + n) id fl) e g in
+      let front : q ≡ sets o 0 (a ++ (octets 2 k ++ octets 2 n)) = sets_then o p q 0 14 a (octets 2 k ++ octets 2 n) (prefix-length (16 + n) id fl) e (rw (← is) g) in
       let same : (a ++ (octets 2 k ++ octets 2 n)) ++ v ≡ response_octets id r = rw f with-tlv in
       sets_then o q s 0 18 (a ++ (octets 2 k ++ octets 2 n)) v (front_length (16 + n) id fl k n) front h ∙ ap (sets o 0) same
 

@@ -2,8 +2,7 @@
 -- that need the session (an ID in use, the zone, the limit), which are the server's. `Abort` is the forcible abort:
 -- RFC 8490, 5.3: "Where this specification says "forcibly abort", it means sending a TCP RST or the equivalent for other
 -- protocols."
-use Rattle.std.specs.Prelude.{ℕ, ◌+◌, ◌-◌, Bool, false, cond, not, ◌||◌, List, [], ◌∷◌, length, drop, ltb, eqb}
-use Rattle.std.proofs.Math.Option.{Option, none, some}
+use Rattle.std.specs.Prelude.{ℕ, ◌+◌, ◌-◌, Bool, false, cond, not, ◌||◌, Option, Some, None, List, [], ◌∷◌, length, drop, ltb, eqb}
 use Rattle.wire.specs.Field.{field}
 use Rattle.wire.specs.Name.{name_length}
 use Rattle.dso.specs.Header.{header_length, dso_opcode, message_id, is_response, opcode, no_records}
@@ -67,9 +66,9 @@ pub data Opening : Type 0 where
 -- is referred to as the 'Primary TLV' and determines the nature of the operation being performed". "Unrecognized
 -- Additional TLVs are silently ignored".
 abbrev pub first_of : ℕ → Option (List Tlv) → Opening
-first_of id none = settled (bad_form id)
-first_of id (some []) = settled (bad_form id)
-first_of id (some (t ∷ ts)) = primary t
+first_of id None = settled (bad_form id)
+first_of id (Some []) = settled (bad_form id)
+first_of id (Some (t ∷ ts)) = primary t
 
 -- Step 3: "a nonzero count field" is bad form, before the TLVs.
 unfoldable pub form_of : List ℕ → Opening
@@ -111,8 +110,8 @@ abbrev pub question : ℕ → QuestionPlaces
 question n = record { name = place data_start n; rtype = place (data_start + n) 2; class = place (data_start + n + 2) 2 }
 
 abbrev pub asks : ℕ → ℕ → Option ℕ → Judgment
-asks id d none = Reply (mid id) FormErr
-asks id d (some n) = cond (eqb d (n + 4)) (Subscribe (mid id) (question n)) (Reply (mid id) FormErr)
+asks id d None = Reply (mid id) FormErr
+asks id d (Some n) = cond (eqb d (n + 4)) (Subscribe (mid id) (question n)) (Reply (mid id) FormErr)
 
 unfoldable pub subscribe : ℕ → List ℕ → Judgment
 subscribe id v = asks id (length v) (name_length v)
@@ -137,8 +136,8 @@ disputed n d =
     }
 
 abbrev pub disputes : List ℕ → Option ℕ → Judgment
-disputes v none = Abort
-disputes v (some n) =
+disputes v None = Abort
+disputes v (Some n) =
     cond (ltb (length v) (n + 4)) Abort
     (cond (eqb (field 2 (drop n v)) any || eqb (field 2 (drop (n + 2) v)) any) Abort
     (Reconfirm (disputed n (length v))))

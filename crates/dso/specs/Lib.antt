@@ -3,6 +3,7 @@
 pub mod Header
 pub mod Tlv
 pub mod Judge
+pub mod Types
 pub mod Steps
 pub mod Parts
 pub mod Response

@@ -1,6 +1,5 @@
 -- What holds of a judgment, and where the parts of a SUBSCRIBE and of a RECONFIRM stand in the message.
-use Rattle.std.specs.Prelude.{ℕ, ◌+◌, ◌≤◌, ◌≡◌, true, List, length, take, drop}
-use Rattle.std.proofs.Math.Option.{some}
+use Rattle.std.specs.Prelude.{ℕ, ◌+◌, ◌≤◌, ◌≡◌, true, Some, List, length, take, drop}
 use Rattle.wire.specs.Field.{field}
 use Rattle.wire.specs.Name.{name_length, is_name}
 use Rattle.dso.specs.Header.{header_length, message_id}
@@ -27,14 +26,14 @@ FromOctets DsoTypeNi = Unit {0}
 -- A SUBSCRIBE's data v: a name of n octets, a type and a class, and its places in the message.
 pub record Asks (v : List ℕ) (q : QuestionPlaces) : Type 0 where
   pub n : ℕ
-  pub named : name_length v ≡ some n
+  pub named : name_length v ≡ Some n
   pub size : length v ≡ n + 4
   pub places : q ≡ question n
 
 -- A RECONFIRM's data v: a name of n octets, a type, a class and RDATA, and their places.
 pub record Disputes (v : List ℕ) (r : RecordPlaces) : Type 0 where
   pub n : ℕ
-  pub named : name_length v ≡ some n
+  pub named : name_length v ≡ Some n
   pub size : n + 4 ≤ length v
   pub places : r ≡ disputed n (length v)
 

@@ -1,6 +1,5 @@
 -- The responses that the server writes, octet for octet, and what is read back from one.
-use Rattle.std.specs.Prelude.{ℕ, ◌+◌, true, List, [], ◌∷◌, ◌++◌, ◌≡◌, length, drop}
-use Rattle.std.proofs.Math.Option.{some}
+use Rattle.std.specs.Prelude.{ℕ, ◌+◌, true, Some, List, [], ◌∷◌, ◌++◌, ◌≡◌, length, drop}
 use Rattle.wire.specs.Field.{field, octets}
 use Rattle.dso.specs.Header.{header_length, dso_opcode, message_id, is_response, opcode, z_bits, rcode, no_records}
 use Rattle.dso.specs.Tlv.{Tlv, tlvs}
@@ -83,7 +82,7 @@ pub record ReadsMessage (id : ℕ) (r : Response) (m : List ℕ) : Type 0 where
   pub no_z : z_bits m ≡ 0
   pub code : rcode m ≡ response_code r
   pub no_counts : no_records m ≡ true
-  pub carried : tlvs (drop header_length m) ≡ some (response_tlvs r)
+  pub carried : tlvs (drop header_length m) ≡ Some (response_tlvs r)
 
 -- The same of a frame: its prefix is the message's length.
 pub record ReadsAs (id : ℕ) (r : Response) (frame : List ℕ) : Type 0 where

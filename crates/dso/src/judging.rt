@@ -6,48 +6,35 @@ ghost use Rattle.dso.specs.Tlv.{placed};
 
 use crate::data::{keepalive, reconfirm, subscribe, unsubscribe};
 use crate::judgment::{Judged, Judgment, MessageId, ReplyCode};
-use crate::number::{KEEPALIVE, PUSH, RECONFIRM, RETRY_DELAY, SUBSCRIBE, UNSUBSCRIBE};
-use crate::opening::{Start, opened};
+use crate::number::{NotImplemented, TlvType};
+use crate::opening::opened;
 use crate::reader::TlvPlace;
-use wire::field16;
+use wire::read_field;
 
 // With an ID to answer.
+#[tactic(auto, unfolding(crate::specs::Judge::by_type, crate::specs::Types::type_of))]
 fn request(id: MessageId, kind: u16, s: &[u8]) -> Judgment
     requires { id.0 ≡ 0 → ⊥ }
     ensures { result ≡ by_type id.0 kind s.now }
 {
-    if kind == RETRY_DELAY {
-        return Judgment::Abort;
+    match TlvType::try_from(kind) {
+        Ok(TlvType::Keepalive) => keepalive(id, s),
+        Ok(TlvType::Subscribe) => subscribe(id, s),
+        Ok(_) => Judgment::Abort,
+        Err(NotImplemented) => Judgment::Reply(id, ReplyCode::DsoTypeNi),
     }
-    if kind == PUSH {
-        return Judgment::Abort;
-    }
-    if kind == KEEPALIVE {
-        return keepalive(id, s);
-    }
-    if kind == SUBSCRIBE {
-        return subscribe(id, s);
-    }
-    if kind == UNSUBSCRIBE {
-        return Judgment::Abort;
-    }
-    if kind == RECONFIRM {
-        return Judgment::Abort;
-    }
-    Judgment::Reply(id, ReplyCode::DsoTypeNi)
 }
 
 // With ID zero: nothing is ever answered.
+#[tactic(auto, unfolding(crate::specs::Judge::by_type, crate::specs::Types::type_of))]
 fn unidirectional(kind: u16, s: &[u8]) -> Judgment
     ensures { result ≡ by_type 0 kind s.now }
 {
-    if kind == UNSUBSCRIBE {
-        return unsubscribe(s);
+    match TlvType::try_from(kind) {
+        Ok(TlvType::Unsubscribe) => unsubscribe(s),
+        Ok(TlvType::Reconfirm) => reconfirm(s),
+        _ => Judgment::Abort,
     }
-    if kind == RECONFIRM {
-        return reconfirm(s);
-    }
-    Judgment::Abort
 }
 
 fn by_type(id: MessageId, kind: u16, s: &[u8]) -> Judgment
@@ -61,11 +48,12 @@ fn by_type(id: MessageId, kind: u16, s: &[u8]) -> Judgment
 }
 
 // The first TLV decides, by its type and its data.
+#[tactic(auto, unfolding(crate::specs::Header::message_id))]
 fn primary(m: &[u8], t: TlvPlace) -> Judgment
     requires { t.value.start + t.value.len ≤ length m.now }
     ensures { result ≡ by_type (message_id m.now) t.kind (placed m.now t).value }
 {
-    let id = MessageId(field16(m, 0));
+    let id = MessageId(read_field(m, 0));
     let start = t.value.start;
     let end = start + t.value.len;
     by_type(id, t.kind, &m[start..end])
@@ -76,13 +64,13 @@ pub fn judge(m: &[u8]) -> Judged
     ensures { result ≡ judged m.now }
 {
     match opened(m) {
-        Start::Settled(j) => Judged {
-            judgment: j,
-            keepalive: false,
+        Ok(first) => Judged {
+            judgment: primary(m, first),
+            keepalive: first.kind == u16::from(TlvType::Keepalive),
         },
-        Start::Primary(t) => Judged {
-            judgment: primary(m, t),
-            keepalive: t.kind == KEEPALIVE,
+        Err(settled) => Judged {
+            judgment: settled,
+            keepalive: false,
         },
     }
 }

@@ -1,4 +1,6 @@
 // What a message's octets alone say.
+ghost use Rattle.std.specs.Prelude.{◌≡◌};
+ghost use Rattle.dso.specs.Response.{rcode_of};
 
 // A message ID (RFC 8490, 5.4.1), a type of its own so that no session number can be passed for it.
 #[derive(Clone, Copy)]
@@ -31,10 +33,18 @@ pub struct RecordPlaces {
 // The RCODE of a reply with an error. The octets alone lead to the first and the last; the other two are the server's.
 #[derive(Clone, Copy)]
 pub enum ReplyCode {
-    FormErr,
-    ServFail,
-    NotAuth,
-    DsoTypeNi,
+    FormErr = 1,
+    ServFail = 2,
+    NotAuth = 9,
+    DsoTypeNi = 11,
+}
+
+impl From<ReplyCode> for u16 {
+    ghost from_gives = { λ code number. number ≡ rcode_of code };
+
+    fn from(code: ReplyCode) -> u16 {
+        code as u16
+    }
 }
 
 #[derive(Clone, Copy)]

@@ -15,4 +15,5 @@ mod tlv;
 pub use judging::judge;
 pub use judgment::{Judged, Judgment, MessageId, Place, QuestionPlaces, RecordPlaces, ReplyCode};
 pub use matching::{Question, asks_for, is_name};
+pub use number::{NotImplemented, TlvType};
 pub use response::{Response, Timeouts, granted, write_header, write_response, write_tlv};

@@ -4,7 +4,7 @@ ghost use Rattle.wire.specs.Name.{is_name};
 ghost use Rattle.dso.specs.Match.{asks_class, asks_type, asks_for};
 
 use crate::number::{ANY, CNAME};
-use wire::{NameReading, name_at};
+use wire::name_at;
 
 // What a SUBSCRIBE asks for, and what a resource record answers to: a name, a type and a class.
 #[derive(Clone, Copy)]
@@ -14,41 +14,30 @@ pub struct Question<'a> {
     pub rrclass: u16,
 }
 
+#[tactic(auto, unfolding(crate::specs::Match::asks_class))]
 fn asks_class(qclass: u16, class: u16) -> bool
     ensures { result ≡ asks_class qclass class }
 {
-    if qclass == class {
-        return true;
-    }
-    qclass == ANY
+    qclass == class || qclass == ANY
 }
 
+#[tactic(auto, unfolding(crate::specs::Match::asks_type))]
 fn asks_type(qtype: u16, rtype: u16) -> bool
     ensures { result ≡ asks_type qtype rtype }
 {
-    if qtype == rtype {
-        return true;
-    }
-    if qtype == ANY {
-        return true;
-    }
-    rtype == CNAME
+    qtype == rtype || qtype == ANY || rtype == CNAME
 }
 
+#[tactic(auto, unfolding(crate::specs::Match::asks_for))]
 pub fn asks_for(qtype: u16, qclass: u16, rtype: u16, class: u16) -> bool
     ensures { result ≡ asks_for qtype qclass rtype class }
 {
-    if asks_class(qclass, class) {
-        return asks_type(qtype, rtype);
-    }
-    false
+    asks_class(qclass, class) && asks_type(qtype, rtype)
 }
 
+#[tactic(auto, unfolding(wire::specs::Name::is_name))]
 pub fn is_name(s: &[u8]) -> bool
     ensures { result ≡ is_name s.now }
 {
-    let NameReading::Name(n) = name_at(s, 0) else {
-        return false;
-    };
-    n == s.len()
+    name_at(s, 0) == Some(s.len())
 }

@@ -1,27 +1,22 @@
-// Steps 1 to 3: the header, and the TLVs as a whole.
-ghost use Rattle.std.specs.Prelude.{◌≡◌};
-ghost use Rattle.dso.specs.Header.{message_id};
+// Steps 1 to 3: the header, and the TLVs as a whole. They settle the judgment, or the first TLV decides.
+ghost use Rattle.std.specs.Prelude.{◌≡◌, drop};
+ghost use Rattle.dso.specs.Header.{header_length, message_id};
 ghost use Rattle.dso.specs.Judge.{bad_form, form_of, opening};
-ghost use Rattle.dso.specs.Steps.{start_of};
+ghost use Rattle.dso.specs.Steps.{first_place, start_of};
+ghost use Rattle.dso.specs.Tlv.{tlvs};
 
 use crate::header::{is_response, no_records, opcode_of};
 use crate::judgment::{Judgment, MessageId, ReplyCode};
 use crate::number::{HEADER, OPCODE};
-use crate::reader::{TlvPlace, TlvStep, read_tlv};
+use crate::reader::{Reader, TlvPlace};
 use crate::tlv::tlvs_fill;
-use wire::field16;
+use wire::read_field;
 
-// The judgment is settled, or the first TLV decides.
-#[derive(Clone, Copy)]
-pub enum Start {
-    Settled(Judgment),
-    Primary(TlvPlace),
-}
-
+#[tactic(auto, unfolding(crate::specs::Judge::bad_form, crate::specs::Header::message_id))]
 fn bad_form(m: &[u8]) -> Judgment
     ensures { result ≡ bad_form (message_id m.now) }
 {
-    let id = field16(m, 0);
+    let id = read_field::<u16>(m, 0);
     if id == 0 {
         Judgment::Abort
     } else {
@@ -29,33 +24,36 @@ fn bad_form(m: &[u8]) -> Judgment
     }
 }
 
-fn form(m: &[u8]) -> Start
+// The first TLV, where TLVs fill the message behind its header.
+fn first_tlv(m: &[u8]) -> Option<TlvPlace>
+    ensures { result ≡ first_place (tlvs (drop header_length m.now)) }
+{
+    let mut tlvs = Reader::new(m, HEADER);
+    let first = tlvs.next()?.ok()?;
+    tlvs_fill(tlvs).then_some(first)
+}
+
+fn form(m: &[u8]) -> Result<TlvPlace, Judgment>
     ensures { result ≡ start_of (form_of m.now) }
 {
-    if !no_records(m) {
-        return Start::Settled(bad_form(m));
-    }
-    let TlvStep::Whole(t) = read_tlv(m, HEADER) else {
-        return Start::Settled(bad_form(m));
-    };
-    if tlvs_fill(m, t.next) {
-        Start::Primary(t)
-    } else {
-        Start::Settled(bad_form(m))
+    match first_tlv(m) {
+        Some(first) if no_records(m) => Ok(first),
+        _ => Err(bad_form(m)),
     }
 }
 
-pub fn opened(m: &[u8]) -> Start
+#[tactic(auto, unfolding(crate::specs::Judge::opening))]
+pub fn opened(m: &[u8]) -> Result<TlvPlace, Judgment>
     ensures { result ≡ start_of (opening m.now) }
 {
     if m.len() < HEADER {
-        return Start::Settled(Judgment::Abort);
+        return Err(Judgment::Abort);
     }
     if opcode_of(m) != OPCODE {
-        return Start::Settled(Judgment::NotOurs);
+        return Err(Judgment::NotOurs);
     }
     if is_response(m) {
-        return Start::Settled(Judgment::Abort);
+        return Err(Judgment::Abort);
     }
     form(m)
 }

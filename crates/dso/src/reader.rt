@@ -1,11 +1,13 @@
-// A reader that holds the lent message and a place in it: what stands there, a TLV or a name. The steps over it are thin:
-// each takes it apart and leaves the work to a function of a slice and a place. Callers read by `read_tlv` and `read_name`.
-ghost use Rattle.std.specs.Prelude.{◌≡◌};
+// A reader that holds the lent message and a place in it: the TLVs from there on, one behind the other, or the name that
+// stands there.
+ghost use Rattle.std.specs.Prelude.{◌≡◌, ◌-◌, ◌≤◌, IfSome, length};
+ghost use Rattle.std.specs.Iterator.{at_most};
+ghost use Rattle.wire.specs.Name.{max_name};
 ghost use Rattle.wire.specs.Reading.{name_at};
-ghost use Rattle.dso.specs.Tlv.{tlv_at};
+ghost use Rattle.dso.specs.Tlv.{tlv_at, Steps};
 
 use crate::judgment::Place;
-use wire::{NameReading, field16, name_at};
+use wire::{name_at, read_field};
 
 #[derive(Clone, Copy)]
 pub struct Reader<'a> {
@@ -21,56 +23,62 @@ pub struct TlvPlace {
     pub next: usize,
 }
 
-// What stands at a place of a message: a whole TLV, nothing more, or a TLV that the message's end cuts short.
-#[derive(Clone, Copy)]
-pub enum TlvStep {
-    Whole(TlvPlace),
-    End,
-    Cut,
+// The message's end cuts a TLV short.
+#[derive(Clone, Copy, Debug, PartialEq, Eq)]
+pub struct CutShort;
+
+impl<'a> Reader<'a> {
+    pub fn new(message: &'a [u8], at: usize) -> Reader<'a>
+        ensures message { result.message.now ≡ message.now }
+        ensures at { result.at ≡ at }
+    {
+        Reader { message, at }
+    }
+
+    pub fn name(self) -> Option<usize>
+        ensures reads { result ≡ name_at self.entry.message.now self.entry.at }
+        ensures short { IfSome result (λ n. n ≤ max_name) }
+    {
+        name_at(self.message, self.at)
+    }
 }
 
-fn tlv_at(m: &[u8], at: usize) -> TlvStep
+// What stands at a place of a message: a whole TLV, one that is cut short, or nothing more.
+fn tlv_at(m: &[u8], at: usize) -> Option<Result<TlvPlace, CutShort>>
     ensures { result ≡ tlv_at m.now at }
 {
     if m.len() <= at {
-        return TlvStep::End;
+        return None;
     }
     if m.len() - at < 4 {
-        return TlvStep::Cut;
+        return Some(Err(CutShort));
     }
     let start = at + 4;
-    let len = field16(m, at + 2) as usize;
+    let len = usize::from(read_field::<u16>(m, at + 2));
     if m.len() - start < len {
-        return TlvStep::Cut;
+        return Some(Err(CutShort));
     }
-    TlvStep::Whole(TlvPlace {
-        kind: field16(m, at),
+    Some(Ok(TlvPlace {
+        kind: read_field(m, at),
         value: Place { start, len },
         next: start + len,
-    })
+    }))
 }
 
-fn tlv_step<'a>(r: Reader<'a>) -> TlvStep
-    ensures { result ≡ tlv_at r.entry.message.now r.entry.at }
-{
-    tlv_at(r.message, r.at)
-}
+impl<'a> Iterator for Reader<'a> {
+    type Item = Result<TlvPlace, CutShort>;
 
-fn name_step<'a>(r: Reader<'a>) -> NameReading
-    ensures { result ≡ name_at r.entry.message.now r.entry.at }
-{
-    name_at(r.message, r.at)
-}
+    ghost next_gives = { Steps };
 
-// What stands at a place of a message, for callers that hold no reader.
-pub fn read_tlv(m: &[u8], at: usize) -> TlvStep
-    ensures { result ≡ tlv_at m.now at }
-{
-    tlv_step(Reader { message: m, at })
-}
+    ghost remaining = { λ r. at_most (length r.message.now - r.at) };
 
-pub fn read_name(m: &[u8], at: usize) -> NameReading
-    ensures { result ≡ name_at m.now at }
-{
-    name_step(Reader { message: m, at })
+    // Nothing is read behind a TLV that is cut short.
+    fn next(&mut self) -> Option<Result<TlvPlace, CutShort>> {
+        let tlv = tlv_at(self.message, self.at)?;
+        self.at = match tlv {
+            Ok(t) => t.next,
+            Err(_) => self.message.len(),
+        };
+        Some(tlv)
+    }
 }

@@ -6,8 +6,8 @@ ghost use Rattle.dso.specs.Response.{rcode_of, retry_delay, granted as granted_t
 ghost use Rattle.dso.specs.declared.response.Response.TheVariants.{Error, Keepalive};
 
 use crate::judgment::{MessageId, ReplyCode};
-use crate::number::{KEEPALIVE, RETRY_DELAY};
-use wire::{write_octets, write32};
+use crate::number::{OPCODE, TlvType};
+use wire::{write_field, write_octets};
 
 // The session timeouts of a Keepalive TLV, in milliseconds (RFC 8490, 7.1).
 #[derive(Clone, Copy)]
@@ -41,88 +41,72 @@ pub fn granted() -> Timeouts
     }
 }
 
-fn error_flags(code: ReplyCode) -> u16
-    ensures { result ≡ response_flags (rcode_of code) }
-{
-    match code {
-        ReplyCode::FormErr => 0xB001,
-        ReplyCode::ServFail => 0xB002,
-        ReplyCode::NotAuth => 0xB009,
-        ReplyCode::DsoTypeNi => 0xB00B,
-    }
-}
+// The flags of a response without an error: QR 1 and the opcode; the RCODE is added.
+const RESPONSE: u16 = 0x8000 + OPCODE * 0x800;
 
-fn error_delay(code: ReplyCode) -> u32
-    ensures { result ≡ retry_delay code }
-{
-    match code {
-        ReplyCode::FormErr => DELAY,
-        ReplyCode::ServFail => DELAY,
-        ReplyCode::NotAuth => DELAY,
-        ReplyCode::DsoTypeNi => DELAY_NOT_IMPLEMENTED,
+impl ReplyCode {
+    fn flags(self) -> u16
+        ensures { result ≡ response_flags (rcode_of self) }
+    {
+        RESPONSE + u16::from(self)
+    }
+
+    fn retry_delay(self) -> u32
+        ensures { result ≡ retry_delay self }
+    {
+        match self {
+            ReplyCode::FormErr | ReplyCode::ServFail | ReplyCode::NotAuth => DELAY,
+            ReplyCode::DsoTypeNi => DELAY_NOT_IMPLEMENTED,
+        }
     }
 }
 
 // A message's two-octet length prefix and its header, from the front of a slice on.
+#[tactic(auto, using(crate::proofs::Responses::octets_16, crate::proofs::Responses::header_octets))]
 pub fn write_header(out: &mut [u8], length: u16, id: MessageId, flags: u16)
     ensures { out.new ≡ sets out.old 0 (octets 2 length ++ header id.0 flags) }
 {
-    let n = id.0;
-    let front = [
-        (length / 256) as u8,
-        (length % 256) as u8,
-        (n / 256) as u8,
-        (n % 256) as u8,
-        (flags / 256) as u8,
-        (flags % 256) as u8,
-        0,
-        0,
-        0,
-        0,
-        0,
-        0,
-        0,
-        0,
-    ];
+    let mut front = [0; 14];
+    front[..2].copy_from_slice(&length.to_be_bytes());
+    front[2..4].copy_from_slice(&id.0.to_be_bytes());
+    front[4..6].copy_from_slice(&flags.to_be_bytes());
     write_octets(out, 0, &front);
 }
 
 // The type and the length of a TLV.
+#[tactic(auto, using(crate::proofs::Responses::octets_16))]
 pub fn write_tlv(out: &mut [u8], at: usize, kind: u16, length: u16)
     ensures { out.new ≡ sets out.old at (octets 2 kind ++ octets 2 length) }
 {
-    let head = [
-        (kind / 256) as u8,
-        (kind % 256) as u8,
-        (length / 256) as u8,
-        (length % 256) as u8,
-    ];
+    let mut head = [0; 4];
+    head[..2].copy_from_slice(&kind.to_be_bytes());
+    head[2..].copy_from_slice(&length.to_be_bytes());
     write_octets(out, at, &head);
 }
 
 fn write_error(out: &mut [u8], id: MessageId, code: ReplyCode)
     ensures { out.new ≡ sets out.old 0 (response_octets id.0 (Error code)) }
 {
-    write_header(out, 20, id, error_flags(code));
-    write_tlv(out, 14, RETRY_DELAY, 4);
-    write32(out, 18, error_delay(code));
+    write_header(out, 20, id, code.flags());
+    write_tlv(out, 14, TlvType::RetryDelay.into(), 4);
+    write_field(out, 18, code.retry_delay());
 }
 
+#[tactic(auto, using(crate::proofs::Responses::octets_32))]
 fn write_timeouts(out: &mut [u8], at: usize, timeouts: Timeouts)
     ensures { out.new ≡ sets out.old at (octets 4 timeouts.inactivity ++ octets 4 timeouts.keepalive) }
 {
-    if out.len() <= at {
-        return;
-    }
-    write32(out, at, timeouts.inactivity);
-    write32(out, at + 4, timeouts.keepalive);
+    let mut data = [0; 8];
+    data[..4].copy_from_slice(&timeouts.inactivity.to_be_bytes());
+    data[4..].copy_from_slice(&timeouts.keepalive.to_be_bytes());
+    write_octets(out, at, &data);
 }
 
 fn write_keepalive(out: &mut [u8], id: MessageId, timeouts: Timeouts)
     ensures { out.new ≡ sets out.old 0 (response_octets id.0 (Keepalive timeouts)) }
 {
-    write_header(out, 24, id, 0xB000);
-    write_tlv(out, 14, KEEPALIVE, 8);
+    write_header(out, 24, id, RESPONSE);
+    write_tlv(out, 14, TlvType::Keepalive.into(), 8);
     write_timeouts(out, 18, timeouts);
 }
 
@@ -141,7 +125,7 @@ pub fn write_response(out: &mut [u8], id: MessageId, response: Response) -> usiz
             26
         }
         Response::Subscribed => {
-            write_header(out, 12, id, 0xB000);
+            write_header(out, 12, id, RESPONSE);
             14
         }
     }

@@ -2,24 +2,16 @@
 ghost use Rattle.std.specs.Prelude.{◌≡◌, drop};
 ghost use Rattle.dso.specs.Tlv.{filled};
 
-use crate::reader::{TlvStep, read_tlv};
+use crate::reader::Reader;
 
-// Whether TLVs fill a message exactly from a place on.
-pub fn tlvs_fill(m: &[u8], from: usize) -> bool
-    ensures { result ≡ filled (drop from m.now) }
+// Whether TLVs fill a message exactly from a reader's place on.
+pub fn tlvs_fill<'a>(tlvs: Reader<'a>) -> bool
+    ensures { result ≡ filled (drop tlvs.entry.at tlvs.entry.message.now) }
 {
-    let mut at = from;
-    loop {
-        match read_tlv(m, at) {
-            TlvStep::Whole(t) => {
-                at = t.next;
-            }
-            TlvStep::End => {
-                return true;
-            }
-            TlvStep::Cut => {
-                return false;
-            }
+    for tlv in tlvs {
+        if tlv.is_err() {
+            return false;
         }
     }
+    true
 }

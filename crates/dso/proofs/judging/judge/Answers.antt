@@ -4,10 +4,10 @@ use Rattle.dso.proofs.Openings.{primary-fits, judged-settled, judged-primary}
 use Rattle.dso.proofs.judging.judge.Goals as goal
 
 pub primary-requires : goal.primary-requires
-primary-requires c = primary-fits _ _ _ c.opened.ensures c.in-Primary.is
+primary-requires c = primary-fits _ _ _ c.opened.ensures c.in-Ok.is
 
-pub returns-in-Settled : goal.returns-in-Settled
-returns-in-Settled c = judged-settled _ _ _ c.opened.ensures c.in-Settled.is
+pub returns-in-Err : goal.returns-in-Err
+returns-in-Err c = judged-settled _ _ _ c.opened.ensures c.in-Err.is
 
-pub returns-in-Primary : goal.returns-in-Primary
-returns-in-Primary c = judged-primary _ _ _ c.opened.ensures c.in-Primary.is _ c.primary.ensures
+pub returns-in-Ok : goal.returns-in-Ok
+returns-in-Ok c = rw c.from.ensures (judged-primary _ _ _ c.opened.ensures c.in-Ok.is _ c.primary.ensures)

@@ -1,17 +1,17 @@
 -- `dso::opening::form` meets its contract by the laws of step 3.
 -- Assumes nothing.
 use mathlib.Core.Path.{sym, ◌∙◌}
-use Rattle.dso.proofs.Openings.{start-counted, start-primary, start-unfilled, start_none}
+use Rattle.dso.proofs.Openings.{form-first, form-counted, form-bad}
 use Rattle.dso.proofs.opening.form.Goals as goal
+use Rattle.dso.proofs.opening.form.Goals.{in_default-via-in-Some+else-no_records, in_default-via-in_default}
 
-pub returns-then-not-no_records : goal.returns-then-not-no_records
-returns-then-not-no_records c = start-counted _ _ c.bad_form.ensures (sym c.no_records.ensures ∙ c.if-not-no_records.true)
+pub returns-in-Some : goal.returns-in-Some
+returns-in-Some c = form-first _ _ c.first_tlv.ensures _ c.in-Some.is (sym c.no_records.ensures ∙ c.if-no_records.true)
 
 pub returns-in_default : goal.returns-in_default
-returns-in_default c = start_none _ _ (sym c.no_records.ensures ∙ c.if-not-no_records.false) c.read_tlv.ensures _ c.bad_form-in_default.ensures c.in_default.not-Whole
-
-pub returns-then-tlvs_fill : goal.returns-then-tlvs_fill
-returns-then-tlvs_fill c = start-primary _ _ (sym c.no_records.ensures ∙ c.if-not-no_records.false) c.read_tlv.ensures _ c.in-Whole.is (sym c.tlvs_fill.ensures ∙ c.if-tlvs_fill.true)
-
-pub returns-else-tlvs_fill : goal.returns-else-tlvs_fill
-returns-else-tlvs_fill c = start-unfilled _ _ (sym c.no_records.ensures ∙ c.if-not-no_records.false) c.read_tlv.ensures _ c.bad_form-else-tlvs_fill.ensures _ c.in-Whole.is (sym c.tlvs_fill.ensures ∙ c.if-tlvs_fill.false)
+returns-in_default c =
+    rw c.bad_form.ensures
+    (elim c.in_default.branch [
+      | in_default-via-in-Some+else-no_records w ↦ form-counted _ _ c.first_tlv.ensures (sym w.no_records.ensures ∙ w.if-no_records.false)
+      | in_default-via-in_default w ↦ form-bad _ _ c.first_tlv.ensures w.in_default.is
+    ])

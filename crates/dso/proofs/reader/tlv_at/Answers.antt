@@ -12,9 +12,9 @@ pub returns-then-m-at-lt4 : goal.returns-then-m-at-lt4
 returns-then-m-at-lt4 c = sym (tlv_at-cut _ _ c.if-m-at.false (omega arith))
 
 pub returns-then-m-start : goal.returns-then-m-start
-returns-then-m-start c = sym (tlv_at-cut _ _ c.if-m-at.false (omega (arith, c.field16-len.ensures)))
+returns-then-m-start c = sym (tlv_at-cut _ _ c.if-m-at.false (omega (arith, c.read_field.ensures, c.from-len.ensures)))
 
 pub returns : goal.returns
 returns c =
     let a = c.args in
-    cc (tlv_at-whole a.m.now a.at c.if-m-at.false (omega (arith, c.field16-len.ensures)))
+    cc (tlv_at-whole a.m.now a.at c.if-m-at.false (omega (arith, c.read_field.ensures, c.from-len.ensures)))

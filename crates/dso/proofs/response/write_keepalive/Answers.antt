@@ -11,5 +11,5 @@ pub returns : goal.returns
 returns c =
     let a = c.args in
     let t = a.timeouts in
-    response-written a.id.0 (Keepalive t) 1 8 (octets 4 t.inactivity ++ octets 4 t.keepalive) refl (timeouts-length t) a.out.now _ _ _ _
-    refl c.write_header.ensures c.write_tlv.ensures c.write_timeouts.ensures
+    response-written a.id.0 (Keepalive t) 1 8 (octets 4 t.inactivity ++ octets 4 t.keepalive) refl (timeouts-length t) a.out.now _ _ _ _ _
+    refl c.into.ensures c.write_header.ensures c.write_tlv.ensures c.write_timeouts.ensures

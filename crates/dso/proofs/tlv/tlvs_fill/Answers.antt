@@ -1,22 +1,13 @@
--- `dso::tlv::tlvs_fill` meets its contract. Assumes nothing.
-use native.Mathlib.Omega.{arith}
-use mathlib.Core.Path.{refl, sym, ◌∙◌}
-use Rattle.dso.proofs.Tlvs.{filled-end, filled-cut, filled_next, next-after, next-in}
+-- `dso::tlv::tlvs_fill` meets its contract: each step of the reader in turn.
+use mathlib.Core.Path.{sym, ◌∙◌}
+use Rattle.dso.proofs.Tlvs.{fills-next, fills-cut, fills-end}
 use Rattle.dso.proofs.tlv.tlvs_fill.Goals as goal
 
-pub loop-t-init : goal.loop-t-init
-loop-t-init c = refl
+pub returns-then-is_err : goal.returns-then-is_err
+returns-then-is_err c = sym (c.loop-tlv.invariant ∙ fills-cut _ _ _ c.next.ensures.steps _ c.in-Some.is (sym c.is_err.ensures.value ∙ c.if-is_err.true))
 
-pub loop-t-smaller : goal.loop-t-smaller
-loop-t-smaller c =
-    let read = c.read_tlv.ensures in
-    omega (arith, next-after _ _ _ read _ c.in-Whole.is, next-in _ _ _ read _ c.in-Whole.is)
+pub loop-tlv-preserved : goal.loop-tlv-preserved
+loop-tlv-preserved c = c.loop-tlv.invariant ∙ fills-next _ _ _ c.next.ensures.steps _ c.in-Some.is (sym c.is_err.ensures.value ∙ c.if-is_err.false)
 
-pub loop-t-preserved : goal.loop-t-preserved
-loop-t-preserved c = c.loop-t.invariant ∙ filled_next _ _ _ c.read_tlv.ensures _ c.in-Whole.is
-
-pub returns-in-End : goal.returns-in-End
-returns-in-End c = sym (c.loop-t.invariant ∙ filled-end _ _ _ c.read_tlv.ensures c.in-End.is)
-
-pub returns-in-Cut : goal.returns-in-Cut
-returns-in-Cut c = sym (c.loop-t.invariant ∙ filled-cut _ _ _ c.read_tlv.ensures c.in-Cut.is)
+pub returns : goal.returns
+returns c = sym (c.loop-tlv.invariant ∙ fills-end _ _ _ c.next.ensures.steps c.in-None.is)
