@@ -6,6 +6,7 @@ use mathlib.Core.List.{List, [], ◌++◌, append-nil}
 use native.Mathlib.Omega.{arith}
 use lib.ListN.{take, drop, length-take, drop_of_length-le}
 use lib.Seq.{take_all}
+use Rattle.std.specs.Prelude.{Option, Some, None, IsSome}
 use Rattle.script.specs.Fields.{until}
 use Rattle.script.specs.Output.{lf}
 use Rattle.script.specs.Stream.{room, kept, Piece, piece_of}
@@ -124,15 +125,8 @@ read-on h q input line o t m r input' line' s =
           };
     }
 
-pub over-read : (h : List ℕ) (q : Progress) (input line : List ℕ) → q ≡ idle_with false → ReadsLine h q input line
-over-read h q input line e =
-    record {
-      is-ready = λ n k. no_both k (ap (λ (x : Progress). x.ready) e);
-      is-over = λ k. e;
-    }
-
-pub ready_read : (h : List ℕ) (q : Progress) (input line : List ℕ) → ReadsOn h q input line → q.ready ≡ true → ReadsLine h q input line
-ready_read h q input line o e = record { is-ready = o.is-ready; is-over = λ k. no_both e k }
+pub ready_read : (h : List ℕ) (q : Progress) (input line : List ℕ) → ReadsOn h q input line → q.ready ≡ true → ReadsLine h (Some q) input line
+ready_read h q input line o e n = o.is-ready n e
 
 -- A read failed, and the line stays as it is.
 pub read_fails : (h : List ℕ) (q : Progress) (input line : List ℕ) → ReadsOn h q input line → not q.ready ≡ true → q.more ≡ true
@@ -146,19 +140,15 @@ module _ (p : Progress) (input line : List ℕ) (q : Progress) (line' : List ℕ
   piece-begun : record { held = take q.held line'; rest = left_of q input; ended = q.ready } ≡ piece_of [] (left_of p input)
   piece-begun = s.piece ∙ ap (λ (x : Progress). piece_of (take x.held line) (left_of x input)) n
 
-  pub cut-next : q.ready ≡ true → NextLine (left_of p input) q input line'
+  pub cut-next : q.ready ≡ true → NextLine (left_of p input) (Some q) input line'
   cut-next e =
       let piece = piece-begun ∙ ap (piece_of []) (sym (append-nil (left_of p input))) in
       record {
-        is-ready = λ k.
-            record {
-              came = [];
-              unread = λ m. refl;
-              held = ap (λ (x : Piece). x.held) piece;
-              rest = ap (λ (x : Piece). x.rest) piece;
-              whole = λ m. sym (ap (λ (x : Piece). x.ended) piece) ∙ e;
-            };
-        is-over = λ k. no_both e k;
+        came = [];
+        unread = λ m. refl;
+        held = ap (λ (x : Piece). x.held) piece;
+        rest = ap (λ (x : Piece). x.rest) piece;
+        whole = λ m. sym (ap (λ (x : Piece). x.ended) piece) ∙ e;
       }
 
   -- Where the chunk has no end of the line, it goes on with what comes behind the chunk.
@@ -171,20 +161,22 @@ module _ (p : Progress) (input line : List ℕ) (q : Progress) (line' : List ℕ
   kept-begun : kept (take q.held line') ≡ take q.held line'
   kept-begun = kept-held [] (left_of p input) (take q.held line') (ap (λ (x : Piece). x.held) piece-begun)
 
-  pub read_next : q.ready ≡ false → (r : Progress) (input' line'' : List ℕ) → ReadsLine (take q.held line') r input' line''
+  pub read_next : q.ready ≡ false → (r : Option Progress) (input' line'' : List ℕ) → ReadsLine (take q.held line') r input' line''
       → NextLine (left_of p input) r input' line''
-  read_next e r input' line'' y =
+  read_next e None input' line'' y = tt
+  read_next e (Some r) input' line'' y =
+      let z = y kept-begun in
       record {
-        is-ready = λ k. let z = y.is-ready kept-begun k in
-            record {
-              came = z.came;
-              unread = λ m. no_both m (going e);
-              held = z.held ∙ ap (λ (x : Piece). x.held) (goes-on e z.came);
-              rest = z.rest ∙ ap (λ (x : Piece). x.rest) (goes-on e z.came);
-              whole = λ m. sym (ap (λ (x : Piece). x.ended) (goes-on e z.came)) ∙ z.whole m;
-            };
-        is-over = y.is-over;
+        came = z.came;
+        unread = λ m. no_both m (going e);
+        held = z.held ∙ ap (λ (x : Piece). x.held) (goes-on e z.came);
+        rest = z.rest ∙ ap (λ (x : Piece). x.rest) (goes-on e z.came);
+        whole = λ m. sym (ap (λ (x : Piece). x.ended) (goes-on e z.came)) ∙ z.whole m;
       }
+
+  -- There is one where the chunk has its end.
+  pub read_there : q.ready ≡ false → (r : Option Progress) → (piece_of [] (left_of p input)).ended ≡ true → IsSome r
+  read_there e r m = no_both m (going e)
 
   pub next_fails : q.ready ≡ false → (line'' : List ℕ) → ReadFails (take q.held line') line'' → NextFails (left_of p input) line''
   next_fails e line'' f =
@@ -195,3 +187,9 @@ module _ (p : Progress) (input line : List ℕ) (q : Progress) (line' : List ℕ
         held = z.held ∙ ap (λ (x : Piece). x.held) (goes-on e z.came);
         ended = sym (ap (λ (x : Piece). x.ended) (goes-on e z.came)) ∙ z.ended;
       }
+
+pub ruleset refills = (refills-chunk, refills-last, refills_none)
+
+pub ruleset refilled = (refilled-over, refilled-more)
+
+pub ruleset reading = (unread-yet, read-on, ready_read, read_fails)

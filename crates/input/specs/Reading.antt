@@ -1,5 +1,5 @@
 -- How far the input has come, as the code has it.
-use Rattle.std.specs.Prelude.{ℕ, Bool, true, false, List, [], ◌++◌, ◌≡◌, take, drop}
+use Rattle.std.specs.Prelude.{ℕ, Bool, true, false, List, [], ◌++◌, ◌≡◌, take, drop, Option, IfSome}
 use Rattle.script.specs.Stream.{kept, piece_of}
 use Rattle.input.specs.declared.progress.Progress.{Progress}
 
@@ -49,14 +49,12 @@ pub record Refills (held : ℕ) (q : Progress) : Type 0 where
   pub next : q.more ≡ true → q.held ≡ held
 
 -- It was read to its end, or there is no line any more.
-pub record ReadsLine (h : List ℕ) (q : Progress) (input line : List ℕ) : Type 0 where
-  pub is-ready : kept h ≡ h → q.ready ≡ true → LineReady h [] q input line
-  pub is-over : q.ready ≡ false → q ≡ idle_with false
+abbrev pub ReadsLine : List ℕ → Option Progress → List ℕ → List ℕ → Type 0
+ReadsLine h r input line = IfSome r (λ q. kept h ≡ h → LineReady h [] q input line)
 
 -- The next line was taken from what was left of the chunk and from what came behind it, or there is none any more.
-pub record NextLine (left : List ℕ) (q : Progress) (input line : List ℕ) : Type 0 where
-  pub is-ready : q.ready ≡ true → LineReady [] left q input line
-  pub is-over : q.ready ≡ false → q ≡ idle_with false
+abbrev pub NextLine : List ℕ → Option Progress → List ℕ → List ℕ → Type 0
+NextLine left r input line = IfSome r (λ q. LineReady [] left q input line)
 
 -- A read failed while the line was going on that begins with h and goes on in `left`. Octets came without its LF, and as much of it
 -- as is kept stands at the front of `line`.

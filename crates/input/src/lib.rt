@@ -4,7 +4,7 @@
 mod progress;
 mod source;
 
-ghost use Rattle.std.specs.Prelude.{◌≡◌, true, [], take, IfOk, IfErr, OnErr};
+ghost use Rattle.std.specs.Prelude.{◌≡◌, true, [], take, IsSome, IfOk, IfErr, OnErr};
 ghost use Rattle.script.specs.Stream.{piece_of};
 ghost use Rattle.input.specs.Reading.{left_of, Refills, ReadsOn, ReadsLine, NextLine, ReadFails, NextFails};
 
@@ -15,25 +15,22 @@ pub use source::Source;
 use std::io;
 
 // So many octets were read. Where the input ended, the last line's LF may be missing.
+#[tactic(auto, using(crate::proofs::Taking::refills))]
 fn refilled(n: usize, held: usize) -> Progress
     ensures { Refills held result }
 {
     if n > 0 {
         return Progress {
             end: n,
-            used: 0,
             held,
-            ready: false,
-            more: true,
+            ..idle(true)
         };
     }
     if held > 0 {
         return Progress {
-            end: 0,
-            used: 0,
             held,
             ready: true,
-            more: false,
+            ..idle(false)
         };
     }
     idle(false)
@@ -49,6 +46,7 @@ fn refill<S: Source>(held: usize, input: &mut Input, source: &mut S) -> io::Resu
 }
 
 // The next chunk, and what it brings to the line. Where the read fails, the line stays as it is.
+#[tactic(auto, using(crate::proofs::Taking::refilled))]
 fn advance<S: Source>(
     held: usize,
     input: &mut Input,
@@ -60,60 +58,50 @@ fn advance<S: Source>(
     ensures error { IfErr result S.fails }
 {
     let p = refill(held, input, source)?;
-    if p.more {
-        return Ok(resume(p, input, line));
-    }
-    Ok(p)
+    Ok(if p.more { resume(p, input, line) } else { p })
 }
 
-// Reads until the line is whole. A proved loop has to end, and nothing says that the input does: the turns are counted down, from a
-// number that no run uses up.
+// Reads until the line is whole. A proved loop has to end, and nothing says that the input does: the turns are counted, up to a
+// number that no run reaches.
+#[tactic(auto, using(crate::proofs::Taking::reading))]
 fn read_on<S: Source>(
     held: usize,
     more: bool,
     input: &mut Input,
     line: &mut Line,
     source: &mut S,
-) -> io::Result<Progress>
-    ensures ok { IfOk result (λ q. ReadsLine (take held line.old) q input.new line.new) }
+) -> io::Result<Option<Progress>>
+    ensures ok { IfOk result (λ r. ReadsLine (take held line.old) r input.new line.new) }
     ensures err { OnErr result (ReadFails (take held line.old) line.new) }
     ensures error { IfErr result S.fails }
 {
-    let mut q = Progress {
-        end: 0,
-        used: 0,
-        held,
-        ready: false,
-        more,
-    };
-    let mut turns = u64::MAX;
-    while turns > 0 && q.more && !q.ready {
+    let mut q = Progress { held, ..idle(more) };
+    for _ in 0..u64::MAX {
+        if q.ready || !q.more {
+            break;
+        }
         q = advance(q.held, input, line, source)?;
-        turns -= 1;
     }
-    if q.ready {
-        return Ok(q);
-    }
-    Ok(idle(false))
+    Ok(if q.ready { Some(q) } else { None })
 }
 
-// Takes the next line: from the chunk that was read last, and from the next ones where it goes on. Where the chunk has the line's end,
-// the line is there. An error is one that a read of the source gave: what came of the line then stands in `line`, and of what `input`
+// Takes the next line, if there is one: from the chunk that was read last, and from the next ones where it goes on. Where the chunk has
+// the line's end, the line is there. An error is one that a read of the source gave: what came of the line then stands in `line`, and of what `input`
 // holds nothing is promised.
 pub fn next_line<S: Source>(
     p: Progress,
     input: &mut Input,
     line: &mut Line,
     source: &mut S,
-) -> io::Result<Progress>
-    ensures ok { IfOk result (λ q. NextLine (left_of p input.old) q input.new line.new) }
-    ensures there { IfOk result (λ q. (piece_of [] (left_of p input.old)).ended ≡ true → q.ready ≡ true) }
+) -> io::Result<Option<Progress>>
+    ensures ok { IfOk result (λ r. NextLine (left_of p input.old) r input.new line.new) }
+    ensures there { IfOk result (λ r. (piece_of [] (left_of p input.old)).ended ≡ true → IsSome r) }
     ensures err { OnErr result (NextFails (left_of p input.old) line.new) }
     ensures error { IfErr result S.fails }
 {
     let q = resume(begun(p), input, line);
     if q.ready {
-        return Ok(q);
+        return Ok(Some(q));
     }
     read_on(q.held, q.more, input, line, source)
 }

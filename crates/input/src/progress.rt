@@ -40,11 +40,9 @@ pub fn begun(p: Progress) -> Progress
     ensures { result ≡ begun_from p }
 {
     Progress {
-        end: p.end,
-        used: p.used,
         held: 0,
         ready: false,
-        more: p.more,
+        ..p
     }
 }
 
@@ -56,16 +54,16 @@ pub fn held_line(p: Progress, line: &Line) -> &[u8]
 }
 
 // Cuts the chunk up to the end of the line, or of the chunk.
+#[tactic(auto, using(crate::proofs::Resuming::resumes))]
 pub fn resume(p: Progress, input: &Input, line: &mut Line) -> Progress
     ensures { Resumes p input.now line.old result line.new }
 {
     let chunk = part(input, 0, p.end);
     let c = cut(part(chunk, p.used, p.end), line, p.held);
     Progress {
-        end: p.end,
         used: place(chunk.len(), p.used, c.used),
         held: c.held,
         ready: c.ended,
-        more: p.more,
+        ..p
     }
 }
