@@ -4,6 +4,7 @@ use mathlib.Core.Path.{◌≡◌, refl, sym, ap, ap₂, ◌∙◌}
 use mathlib.Core.Bool.{true, false, ◌&&◌}
 use mathlib.Core.List.{List, [], ◌∷◌, ◌++◌}
 use mathlib.Core.Option.{Option, none, some}
+use Rattle.std.specs.Prelude.{Some}
 use native.Mathlib.Nat.{le_of_suc-le-suc, not-suc-le-zero}
 use native.Mathlib.Omega.{arith}
 use lib.ListN.{length, drop, length-append}
@@ -63,14 +64,13 @@ pub changes_in-nil : changes_in 0 [] ≡ some []
 unfolding changes_in
 changes_in-nil = refl
 
-front : (b : ℕ) (l : List ℕ) (r : Record) → read_record (b ∷ l) ≡ some r
+front : (b : ℕ) (l : List ℕ) (r : Record) → read_record (b ∷ l) ≡ Some r
     → changes_in 0 (b ∷ l) ≡ joined (notified r) (changes_in (pred (size r)) l)
 unfolding changes_in
-front b l r h =
-    ap (λ (o : Option Record). elim o as (λ x. Option (List Change)) [ none ↦ none | some q ↦ joined (notified q) (changes_in (pred (size q)) l) ]) h
+front b l r h = rw (h, changes_in)
 
 -- A record at the front is one change, and the others follow it.
-pub changes_in-read : (l : List ℕ) (r : Record) → read_record l ≡ some r → changes_in 0 l ≡ joined (notified r) (changes_in 0 (drop (size r) l))
+pub changes_in-read : (l : List ℕ) (r : Record) → read_record l ≡ Some r → changes_in 0 l ≡ joined (notified r) (changes_in 0 (drop (size r) l))
 changes_in-read [] r h = absurd (omega (arith, size-pos r, size-le [] r h))
 changes_in-read (b ∷ l) r h = go (size r) refl
   where

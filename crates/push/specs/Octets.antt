@@ -1,5 +1,5 @@
 -- PUSH messages in octets, and reading them (RFC 8765, 6.3.1).
-use Rattle.std.specs.Prelude.{ℕ, zero, suc, pred, cond, ◌||◌, List, [], ◌∷◌, ◌++◌, length, leb, eqb}
+use Rattle.std.specs.Prelude.{ℕ, zero, suc, pred, cond, ◌||◌, List, [], ◌∷◌, ◌++◌, length, leb, eqb, None, Some}
 use Rattle.std.proofs.Math.Option.{Option, none, some}
 use Rattle.dso.specs.Judge.{push_type}
 use Rattle.dso.specs.Response.{header, tlvs_octets, framed}
@@ -76,4 +76,4 @@ changes_in zero [] = some []
 changes_in (suc k) [] = none
 changes_in (suc k) (b ∷ l) = changes_in k l
 changes_in zero (b ∷ l) =
-    elim (read_record (b ∷ l)) [ none ↦ none | some r ↦ joined (notified r) (changes_in (pred (size r)) l) ]
+    elim (read_record (b ∷ l)) [ None ↦ none | Some r ↦ joined (notified r) (changes_in (pred (size r)) l) ]

@@ -3,7 +3,7 @@ use Prim.Native.Nat.{ℕ, zero, suc, ◌≤◌, ◌<◌}
 use mathlib.Core.Path.{◌≡◌, refl, sym, ap, ap₂, ◌∙◌, subst}
 use mathlib.Core.Bool.{Bool, true, false, cond, not, ◌&&◌, ◌||◌}
 use mathlib.Core.List.{List, [], ◌∷◌, ◌++◌, map}
-use mathlib.Core.Option.{Option, none, some}
+use Rattle.std.specs.Prelude.{Option, None, Some}
 use native.Mathlib.Omega.{arith}
 use lib.ListN.{length, drop}
 use lib.Dec.{leb, eqb}
@@ -47,8 +47,8 @@ judged a f rest =
 abbrev read : ℕ → List ℕ → List ℕ → List Record → Option Record → Edited
 read n zone l store o =
     elim o as (λ x. Edited) [
-      | none ↦ faulty Unreadable
-      | some r ↦ judged (allowed zone r) (overfull store r) (edited n zone (drop (size r) l) (edit store r))
+      | None ↦ faulty Unreadable
+      | Some r ↦ judged (allowed zone r) (overfull store r) (edited n zone (drop (size r) l) (edit store r))
     ]
 
 edited-front : (n : ℕ) (zone : List ℕ) (b : ℕ) (l : List ℕ) (store : List Record) (o : Option Record) → read_record (b ∷ l) ≡ o
@@ -56,17 +56,17 @@ edited-front : (n : ℕ) (zone : List ℕ) (b : ℕ) (l : List ℕ) (store : Lis
 unfolding edited
 edited-front n zone b l store o h = ap (read n zone (b ∷ l) store) h
 
-pub edited-unreadable : (n : ℕ) (zone l : List ℕ) (store : List Record) → 0 < length l → read_record l ≡ none
+pub edited-unreadable : (n : ℕ) (zone l : List ℕ) (store : List Record) → 0 < length l → read_record l ≡ None
     → edited (suc n) zone l store ≡ faulty Unreadable
 edited-unreadable n zone [] store h k = absurd (omega arith)
-edited-unreadable n zone (b ∷ l) store h k = edited-front n zone b l store none k
+edited-unreadable n zone (b ∷ l) store h k = edited-front n zone b l store None k
 
-edited-read : (n : ℕ) (zone l : List ℕ) (store : List Record) (r : Record) → read_record l ≡ some r
-    → edited (suc n) zone l store ≡ read n zone l store (some r)
+edited-read : (n : ℕ) (zone l : List ℕ) (store : List Record) (r : Record) → read_record l ≡ Some r
+    → edited (suc n) zone l store ≡ read n zone l store (Some r)
 edited-read n zone [] store r h = absurd (omega (arith, size-pos r, size-le [] r h))
-edited-read n zone (b ∷ l) store r h = edited-front n zone b l store (some r) h
+edited-read n zone (b ∷ l) store r h = edited-front n zone b l store (Some r) h
 
-module _ (n : ℕ) (zone l : List ℕ) (store : List Record) (r : Record) (h : read_record l ≡ some r) where
+module _ (n : ℕ) (zone l : List ℕ) (store : List Record) (r : Record) (h : read_record l ≡ Some r) where
   rest : Edited
   rest = edited n zone (drop (size r) l) (edit store r)
 
@@ -89,7 +89,7 @@ module _ (n : ℕ) (zone l : List ℕ) (store : List Record) (r : Record) (h : r
 
 pub data Editing (zone : List ℕ) : ℕ → List ℕ → List Record → List Record → Type 0 where
   done : {n : ℕ} {store : List Record} → Editing zone n [] store store
-  next : {n : ℕ} {l : List ℕ} {store after : List Record} (r : Record) → read_record l ≡ some r → allowed zone r ≡ true
+  next : {n : ℕ} {l : List ℕ} {store after : List Record} (r : Record) → read_record l ≡ Some r → allowed zone r ≡ true
       → overfull store r ≡ false → Editing zone n (drop (size r) l) (edit store r) after → Editing zone (suc n) l store after
 
 never : {X : Type 0} (f : BatchFault) (s : List Record) → faulty f ≡ stored s → X
@@ -108,19 +108,19 @@ editing zone (suc n) (b ∷ l) store after h = go (λ m s. editing zone n m s af
     Rest : Type 0
     Rest = (m : List ℕ) (s : List Record) → edited n zone m s ≡ stored after → Editing zone n m s after
 
-    full : Rest → (r : Record) → read_record (b ∷ l) ≡ some r → allowed zone r ≡ true → (t : Bool) → overfull store r ≡ t
+    full : Rest → (r : Record) → read_record (b ∷ l) ≡ Some r → allowed zone r ≡ true → (t : Bool) → overfull store r ≡ t
         → Editing zone (suc n) (b ∷ l) store after
     full ih r e a true f = never StoreFull after (sym (edited-full n zone (b ∷ l) store r e a f) ∙ h)
     full ih r e a false f = next r e a f (ih (drop (size r) (b ∷ l)) (edit store r) (sym (edited-step n zone (b ∷ l) store r e a f) ∙ h))
 
-    value : Rest → (r : Record) → read_record (b ∷ l) ≡ some r → (t : Bool) → allowed zone r ≡ t
+    value : Rest → (r : Record) → read_record (b ∷ l) ≡ Some r → (t : Bool) → allowed zone r ≡ t
         → Editing zone (suc n) (b ∷ l) store after
     value ih r e true a = full ih r e a (overfull store r) refl
     value ih r e false a = never BadValue after (sym (edited-bad n zone (b ∷ l) store r e a) ∙ h)
 
     go : Rest → (o : Option Record) → read_record (b ∷ l) ≡ o → Editing zone (suc n) (b ∷ l) store after
-    go ih none e = never Unreadable after (sym (edited-unreadable n zone (b ∷ l) store (omega arith) e) ∙ h)
-    go ih (some r) e = value ih r e (allowed zone r) refl
+    go ih None e = never Unreadable after (sym (edited-unreadable n zone (b ∷ l) store (omega arith) e) ∙ h)
+    go ih (Some r) e = value ih r e (allowed zone r) refl
 
 -- ---- one edit
 

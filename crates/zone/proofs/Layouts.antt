@@ -3,7 +3,7 @@ use Prim.Native.Nat.{ℕ, ◌+◌, ◌≤◌, ◌<◌}
 use mathlib.Core.Path.{◌≡◌, refl, sym, ap, ◌∙◌, subst}
 use mathlib.Core.Bool.{Bool, true, false}
 use mathlib.Core.List.{List, ◌++◌, append_assoc}
-use mathlib.Core.Option.{Option, none, some}
+use Rattle.std.specs.Prelude.{Option, None, Some}
 use native.Mathlib.Omega.{arith}
 use lib.ListN.{length, take, drop, length-append, length-drop}
 use lib.Seq.{take-append_seam, drop-append_seam, length-take-le, take-add, drop-drop}
@@ -110,28 +110,28 @@ record_after owner p =
 abbrev pub record_in : List ℕ → ℕ → Record
 record_in l n = record_after (take n l) (drop n l)
 
-pub read_after-some : (owner l : List ℕ) → fixed_size + rdlen_of l ≤ length l → read_after owner l ≡ some (record_after owner l)
+pub read_after-some : (owner l : List ℕ) → fixed_size + rdlen_of l ≤ length l → read_after owner l ≡ Some (record_after owner l)
 unfolding read_after
 read_after-some owner l h = rw (le-leb (fixed_size + rdlen_of l) (length l) h)
 
-pub read_after-none : (owner l : List ℕ) → length l < fixed_size + rdlen_of l → read_after owner l ≡ none
+pub read_after-none : (owner l : List ℕ) → length l < fixed_size + rdlen_of l → read_after owner l ≡ None
 unfolding read_after
 read_after-none owner l h = rw (lt-leb (fixed_size + rdlen_of l) (length l) h)
 
-pub read_record-nameless : (l : List ℕ) → name_length l ≡ none → read_record l ≡ none
+pub read_record-nameless : (l : List ℕ) → name_length l ≡ None → read_record l ≡ None
 unfolding read_record
 read_record-nameless l h = rw (h, read_record)
 
-pub read_record-named : (l : List ℕ) (n : ℕ) → name_length l ≡ some n → read_record l ≡ read_after (take n l) (drop n l)
+pub read_record-named : (l : List ℕ) (n : ℕ) → name_length l ≡ Some n → read_record l ≡ read_after (take n l) (drop n l)
 unfolding read_record
 read_record-named l n h = rw (h, read_record)
 
-pub read_record-some : (l : List ℕ) (n : ℕ) → name_length l ≡ some n → fixed_size + rdlen_of (drop n l) ≤ length (drop n l)
-    → read_record l ≡ some (record_in l n)
+pub read_record-some : (l : List ℕ) (n : ℕ) → name_length l ≡ Some n → fixed_size + rdlen_of (drop n l) ≤ length (drop n l)
+    → read_record l ≡ Some (record_in l n)
 read_record-some l n h k = read_record-named l n h ∙ read_after-some (take n l) (drop n l) k
 
-pub read_record-none : (l : List ℕ) (n : ℕ) → name_length l ≡ some n → length (drop n l) < fixed_size + rdlen_of (drop n l)
-    → read_record l ≡ none
+pub read_record-none : (l : List ℕ) (n : ℕ) → name_length l ≡ Some n → length (drop n l) < fixed_size + rdlen_of (drop n l)
+    → read_record l ≡ None
 read_record-none l n h k = read_record-named l n h ∙ read_after-none (take n l) (drop n l) k
 
 -- ---- what is written is read back, whatever follows
@@ -162,13 +162,13 @@ record Fields (r : Record) (l : List ℕ) : Type 0 where
   rdata : take (length r.rdata) (drop fixed_size l) ≡ r.rdata
   enough : fixed_size + length r.rdata ≤ length l
 
-fields_read : (r : Record) (l : List ℕ) → Fields r l → read_after r.owner l ≡ some r
+fields_read : (r : Record) (l : List ℕ) → Fields r l → read_after r.owner l ≡ Some r
 fields_read r l f =
     let d : take (rdlen_of l) (drop fixed_size l) ≡ r.rdata =
     ap (λ (k : ℕ). take k (drop fixed_size l)) f.rdlen ∙ f.rdata in
     let e : fixed_size + rdlen_of l ≤ length l = omega (arith, f.rdlen, f.enough) in
     read_after-some r.owner l e
-    ∙ (λ i. some (record { owner = r.owner; rrtype = f.rrtype i; rrclass = f.rrclass i; ttl = f.ttl i; rdata = d i }))
+    ∙ (λ i. Some (record { owner = r.owner; rrtype = f.rrtype i; rrclass = f.rrclass i; ttl = f.ttl i; rdata = d i }))
 
 fields-stand : (r : Record) → Fitting r → (rest : List ℕ)
     → Fields r (fixed_octets r.rrtype r.rrclass r.ttl (length r.rdata) (r.rdata ++ rest))
@@ -187,7 +187,7 @@ fields-stand r f rest =
       enough = omega (arith, fixed-length t c x n more, length-append r.rdata rest);
     }
 
-pub read_record-octets : (r : Record) (rest : List ℕ) → fits r ≡ true → read_record (record_octets r ++ rest) ≡ some r
+pub read_record-octets : (r : Record) (rest : List ℕ) → fits r ≡ true → read_record (record_octets r ++ rest) ≡ Some r
 read_record-octets r rest h =
     let f = fitting r h in
     let a = fixed_octets r.rrtype r.rrclass r.ttl (length r.rdata) (r.rdata ++ rest) in
@@ -201,28 +201,28 @@ read_record-octets r rest h =
 
 -- A record that was read, by its name's length n.
 pub record Stands (l : List ℕ) (r : Record) (n : ℕ) : Type 0 where
-  pub named : name_length l ≡ some n
+  pub named : name_length l ≡ Some n
   pub enough : fixed_size + rdlen_of (drop n l) ≤ length (drop n l)
   pub is : r ≡ record_in l n
 
-pub read_record-stands : (l : List ℕ) (r : Record) → read_record l ≡ some r → (n : ℕ) × Stands l r n
+pub read_record-stands : (l : List ℕ) (r : Record) → read_record l ≡ Some r → (n : ℕ) × Stands l r n
 read_record-stands l r h = go (name_length l) refl
   where
-    inner : (n : ℕ) → name_length l ≡ some n → (t : Bool) → leb (fixed_size + rdlen_of (drop n l)) (length (drop n l)) ≡ t
+    inner : (n : ℕ) → name_length l ≡ Some n → (t : Bool) → leb (fixed_size + rdlen_of (drop n l)) (length (drop n l)) ≡ t
         → (n : ℕ) × Stands l r n
     inner n e true q =
         let k = leb-true (fixed_size + rdlen_of (drop n l)) (length (drop n l)) q in
-        let g : some r ≡ some (record_in l n) = sym h ∙ read_record-some l n e k in
+        let g : Some r ≡ Some (record_in l n) = sym h ∙ read_record-some l n e k in
         (n, record { named = e; enough = k; is = cc })
     inner n e false q =
-        let g : some r ≡ none = sym h ∙ read_record-none l n e (leb-false (fixed_size + rdlen_of (drop n l)) (length (drop n l)) q) in
+        let g : Some r ≡ None = sym h ∙ read_record-none l n e (leb-false (fixed_size + rdlen_of (drop n l)) (length (drop n l)) q) in
         let z : ◌≡◌ {A = ℕ} 0 1 = cc in absurd (omega arith)
 
     go : (o : Option ℕ) → name_length l ≡ o → (n : ℕ) × Stands l r n
-    go none e =
-        let g : some r ≡ none = sym h ∙ read_record-nameless l e in
+    go None e =
+        let g : Some r ≡ None = sym h ∙ read_record-nameless l e in
         let z : ◌≡◌ {A = ℕ} 0 1 = cc in absurd (omega arith)
-    go (some n) e = inner n e (leb (fixed_size + rdlen_of (drop n l)) (length (drop n l))) refl
+    go (Some n) e = inner n e (leb (fixed_size + rdlen_of (drop n l)) (length (drop n l))) refl
 
 take_step : (i a m : ℕ) (p : List ℕ) → take (a + m) (drop i p) ≡ take a (drop i p) ++ take m (drop (i + a) p)
 take_step i a m p = take-add a m (drop i p) ∙ ap (λ (q : List ℕ). take a (drop i p) ++ take m q) (drop-drop a i p)
@@ -237,7 +237,7 @@ fixed-parts k p =
     ∙ ap (λ (q : List ℕ). take 2 (drop 2 p) ++ q) (take_step 4 4 (2 + k) p
     ∙ ap (λ (q : List ℕ). take 4 (drop 4 p) ++ q) (take_step 8 2 k p)))
 
-module _ (l : List ℕ) (n : ℕ) (named : name_length l ≡ some n) (enough : fixed_size + rdlen_of (drop n l) ≤ length (drop n l)) where
+module _ (l : List ℕ) (n : ℕ) (named : name_length l ≡ Some n) (enough : fixed_size + rdlen_of (drop n l) ≤ length (drop n l)) where
   owner-length : length (take n l) ≡ n
   owner-length = length-take-le n l (name_length-le l n named)
 
@@ -294,24 +294,24 @@ module _ (l : List ℕ) (r : Record) (n : ℕ) (s : Stands l r n) where
   stands-size = ap size s.is ∙ in_size l n s.named s.enough
 
 -- What was read from octets fits, lies within them, and is what stands at their front.
-pub size-le : (l : List ℕ) (r : Record) → read_record l ≡ some r → size r ≤ length l
+pub size-le : (l : List ℕ) (r : Record) → read_record l ≡ Some r → size r ≤ length l
 size-le l r h =
     let (n, s) = read_record-stands l r h in
     subst (λ (q : Record). size q ≤ length l) (sym s.is) (in-size-le l n s.named s.enough)
 
-pub read_record-fits : (l : List ℕ) (r : Record) → are_bytes l ≡ true → read_record l ≡ some r → fits r ≡ true
+pub read_record-fits : (l : List ℕ) (r : Record) → are_bytes l ≡ true → read_record l ≡ Some r → fits r ≡ true
 read_record-fits l r b h =
     let (n, s) = read_record-stands l r h in
     subst (λ (q : Record). fits q ≡ true) (sym s.is) (fits-of (record_in l n) (in-fitting l n s.named s.enough b))
 
-pub read_record-front : (l : List ℕ) (r : Record) → are_bytes l ≡ true → read_record l ≡ some r → take (size r) l ≡ record_octets r
+pub read_record-front : (l : List ℕ) (r : Record) → are_bytes l ≡ true → read_record l ≡ Some r → take (size r) l ≡ record_octets r
 read_record-front l r b h =
     let (n, s) = read_record-stands l r h in
     subst (λ (q : Record). take (size q) l ≡ record_octets q) (sym s.is) (sym (in-octets l n s.named s.enough b))
 
 -- Nothing after a record changes its reading.
-pub read_record-only : (l : List ℕ) (r : Record) (rest : List ℕ) → are_bytes l ≡ true → read_record l ≡ some r
-    → read_record (take (size r) l ++ rest) ≡ some r
+pub read_record-only : (l : List ℕ) (r : Record) (rest : List ℕ) → are_bytes l ≡ true → read_record l ≡ Some r
+    → read_record (take (size r) l ++ rest) ≡ Some r
 read_record-only l r rest b h =
     ap (λ (q : List ℕ). read_record (q ++ rest)) (read_record-front l r b h)
     ∙ read_record-octets r rest (read_record-fits l r b h)

@@ -1,13 +1,13 @@
 -- Laws of the steps of a batch in lent memory, and of the loop over them.
 use Prim.Native.Nat.{ℕ, suc, min, ◌+◌, ◌-◌, ◌*◌, ◌≤◌, ◌<◌}
-use mathlib.Core.Path.{◌≡◌, refl, sym, ap, ap₂, ◌∙◌}
-use mathlib.Core.Bool.{Bool, true, false, cond}
+use mathlib.Core.Path.{◌≡◌, refl, sym, ap, ap₂, ◌∙◌, subst}
+use mathlib.Core.Bool.{Bool, true, false}
 use mathlib.Core.List.{List, map}
-use mathlib.Core.Option.{Option, none, some}
 use native.Mathlib.Nat.{min-eq_left, min-le_right}
 use native.Mathlib.Omega.{arith}
 use lib.ListN.{length, take, drop, length-drop, drop_of_length-le}
 use lib.Seq.{sets, drop-drop, length-take-le}
+use Rattle.std.specs.Prelude.{Option, None, Some, Result, Ok, Err}
 use Rattle.wire.specs.Part.{part}
 use Rattle.wire.specs.Name.{max_name}
 use Rattle.wire.proofs.Names.{name_length-max}
@@ -15,193 +15,124 @@ use Rattle.wire.proofs.Writes.{take-written}
 use Rattle.table.specs.Blocks.{blocks}
 use Rattle.table.proofs.Blocks.{blocks-front}
 use Rattle.zone.specs.Record.{Record}
-use Rattle.zone.specs.Layout.{fixed_size, size, read_record}
-use Rattle.zone.specs.Batch.{max_records, max_edits, max_rdata, allowed, overfull, edit, Edited, faulty, edited, batch_of}
-use Rattle.zone.specs.Table.{block_size, area_size, rec_of, records_of, record_from}
-use Rattle.zone.specs.Edit.{edit_of, record_of, checked_at}
-use Rattle.zone.specs.Update.{store_of, count_of, applied}
-use Rattle.zone.specs.Batches.{onward, counted, Steps, edited_of}
+use Rattle.zone.specs.Layout.{size, read_record}
+use Rattle.zone.specs.Batch.{max_records, max_edits, max_rdata, allowed, overfull, Edited, faulty, edited, batch_of}
+use Rattle.zone.specs.Table.{block_size, area_size, rec_of, records_of}
+use Rattle.zone.specs.Edit.{checked, checked_at}
+use Rattle.zone.specs.Update.{applied}
+use Rattle.zone.specs.Batches.{edited_of}
 use Rattle.zone.specs.declared.BatchFault.{BatchFault}
-use Rattle.zone.specs.declared.BatchFault.TheVariants.{TooManyEdits, Unreadable, BadValue, StoreFull}
-use Rattle.zone.specs.declared.reading.Edit.{Edit}
-use Rattle.zone.specs.declared.reading.CheckedEdit.{CheckedEdit}
-use Rattle.zone.specs.declared.reading.CheckedEdit.TheVariants.{Good, Fault}
-use Rattle.zone.specs.declared.editing.Applied.{Applied}
-use Rattle.zone.specs.declared.editing.Applied.TheVariants.{Count, Full}
-use Rattle.zone.specs.declared.editing.Stepped.{Stepped}
-use Rattle.zone.specs.declared.editing.Stepped.TheVariants.{Next, Stop}
-use Rattle.zone.specs.declared.editing.BatchResult.TheVariants.{Stored, Faulty}
+use Rattle.zone.specs.declared.BatchFault.TheVariants.{TooManyEdits, Unreadable, BadValue}
 use Rattle.zone.proofs.Goods.{allowed-parts}
-use Rattle.zone.proofs.Layouts.{read_record-stands, stands-owner}
+use Rattle.zone.proofs.Layouts.{read_record-stands, stands-owner, size-le}
 use Rattle.zone.proofs.Batches.{edited-end, edited-more, edited-unreadable, edited-bad, edited-full, edited-step}
-use Rattle.zone.proofs.Readings.{Places, record_of-edit, places-within}
 
 -- ---- an edit that was checked
 
-abbrev judged : ℕ → Record → Bool → CheckedEdit
-judged at r b = elim b as (λ x. CheckedEdit) [ true ↦ Good (edit_of at r) | false ↦ Fault BadValue ]
+-- What becomes of a batch's first edit, by the check and by its application.
+abbrev after_edit : ℕ → List ℕ → List ℕ → Record → Result (List Record) BatchFault → Edited
+after_edit k zone l r (Ok store) = edited k zone (drop (size r) l) store
+after_edit k zone l r (Err f) = faulty f
 
-abbrev looked : List ℕ → ℕ → Option Record → CheckedEdit
-looked zone at o = elim o as (λ x. CheckedEdit) [ none ↦ Fault Unreadable | some r ↦ judged at r (allowed zone r) ]
+abbrev after_check : ℕ → List ℕ → List ℕ → List Record → Result Record BatchFault → Edited
+after_check k zone l store (Ok r) = after_edit k zone l r (applied store r)
+after_check k zone l store (Err f) = faulty f
 
--- It stands at its places, and its values are allowed.
-pub record Checked (zone s : List ℕ) (at : ℕ) (e : Edit) : Type 0 where
-  pub places : Places s at e
-  pub values : allowed zone (record_of s e) ≡ true
+edited_first : (k : ℕ) (zone l : List ℕ) (store : List Record) → 0 < length l
+    → edited (suc k) zone l store ≡ after_check k zone l store (checked zone (read_record l))
+unfolding applied
+edited_first k zone l store h = go (read_record l) refl
+  where
+    full : (r : Record) → read_record l ≡ Some r → allowed zone r ≡ true → (b : Bool) → overfull store r ≡ b
+        → edited (suc k) zone l store ≡ after_check k zone l store (checked zone (Some r))
+    full r e a true f = edited-full k zone l store r e a f ∙ rw (a, f) refl
+    full r e a false f = edited-step k zone l store r e a f ∙ rw (a, f) refl
 
-module _ (zone s : List ℕ) (at : ℕ) (m : CheckedEdit) (h : m ≡ checked_at zone s at) where
-  seen : (o : Option Record) → read_record (drop at s) ≡ o → m ≡ looked zone at o
-  unfolding checked_at
-  seen o f = h ∙ ap (looked zone at) f
+    value : (r : Record) → read_record l ≡ Some r → (b : Bool) → allowed zone r ≡ b
+        → edited (suc k) zone l store ≡ after_check k zone l store (checked zone (Some r))
+    value r e true a = full r e a (overfull store r) refl
+    value r e false a = edited-bad k zone l store r e a ∙ rw a refl
 
-  pub checked-places : (e : Edit) → m ≡ Good e → Checked zone s at e
-  checked-places e f = go (read_record (drop at s)) refl
-    where
-      good : (r : Record) → read_record (drop at s) ≡ some r → (b : Bool) → allowed zone r ≡ b → m ≡ judged at r b → Checked zone s at e
-      good r g false a q =
-          let w : Fault BadValue ≡ Good e = sym q ∙ f in
-          let z : ◌≡◌ {A = ℕ} 0 1 = cc in absurd (omega arith)
-      good r g true a q =
-          let w : Good (edit_of at r) ≡ Good e = sym q ∙ f in
-          let v : edit_of at r ≡ e = cc in
-          let t : record_of s e ≡ r = ap (record_of s) (sym v) ∙ record_of-edit s at r g in
-          record {
-            places = record { there = g ∙ ap {B = Option Record} some (sym t); back = ap (edit_of at) t ∙ v };
-            values = ap (allowed zone) t ∙ a;
-          }
+    go : (o : Option Record) → read_record l ≡ o → edited (suc k) zone l store ≡ after_check k zone l store (checked zone (read_record l))
+    go None e = edited-unreadable k zone l store h e ∙ rw e refl
+    go (Some r) e = rw e (value r e (allowed zone r) refl)
 
-      go : (o : Option Record) → read_record (drop at s) ≡ o → Checked zone s at e
-      go none g =
-          let w : Fault Unreadable ≡ Good e = sym (seen none g) ∙ f in
-          let z : ◌≡◌ {A = ℕ} 0 1 = cc in absurd (omega arith)
-      go (some r) g = good r g (allowed zone r) refl (seen (some r) g)
+-- A checked edit stands in the octets, and its parts have room in a block.
+pub record Checked (zone l : List ℕ) (r : Record) : Type 0 where
+  pub within : size r ≤ length l
+  pub owner : length r.owner ≤ max_name
+  pub rdata : length r.rdata ≤ max_rdata
 
-  pub step-fault : (store : List Record) (area : List ℕ) (x : BatchFault) → at < length s → m ≡ Fault x → Steps zone s at store (Stop x) area
-  step-fault store area x l f = go (read_record (drop at s)) refl
-    where
-      same : (y : BatchFault) → m ≡ Fault y → y ≡ x
-      same y q = let w : Fault y ≡ Fault x = sym q ∙ f in cc
-
-      bad : (r : Record) → read_record (drop at s) ≡ some r → (b : Bool) → allowed zone r ≡ b → m ≡ judged at r b → Steps zone s at store (Stop x) area
-      bad r g true a q =
-          let w : Good (edit_of at r) ≡ Fault x = sym q ∙ f in
-          let z : ◌≡◌ {A = ℕ} 0 1 = cc in absurd (omega arith)
-      bad r g false a q = record {
-        few = omega arith;
-        all = λ k. edited-bad k zone (drop at s) store r g a ∙ ap faulty (same BadValue q);
-      }
-
-      go : (o : Option Record) → read_record (drop at s) ≡ o → Steps zone s at store (Stop x) area
-      go none g = record {
-        few = omega arith;
-        all = λ k. edited-unreadable k zone (drop at s) store (omega (arith, length-drop at s)) g ∙ ap faulty (same Unreadable (seen none g));
-      }
-      go (some r) g = bad r g (allowed zone r) refl (seen (some r) g)
-
--- ---- the parts of a checked edit
-
-name-max : (l : List ℕ) (r : Record) → read_record l ≡ some r → length r.owner ≤ max_name
+name-max : (l : List ℕ) (r : Record) → read_record l ≡ Some r → length r.owner ≤ max_name
 name-max l r h =
     let (n, t) = read_record-stands l r h in
     omega (arith, stands-owner l r n t, name_length-max l n t.named)
 
-module _ (zone s : List ℕ) (at : ℕ) (e : Edit) (c : Checked zone s at e) where
-  pub checked-within : e.start + e.namelen + fixed_size + e.rdlen ≤ length s
-  checked-within = places-within s at e c.places
+pub checked_parts : (zone l : List ℕ) (r : Record) → Ok r ≡ checked zone (read_record l) → Checked zone l r
+checked_parts zone l r e = go (read_record l) refl
+  where
+    value : (q : Record) → read_record l ≡ Some q → (b : Bool) → allowed zone q ≡ b → Checked zone l r
+    value q f true a =
+        let w : Ok r ≡ Ok q = e ∙ rw (f, a) refl in
+        let v : q ≡ r = cc in
+        subst (Checked zone l) v (record { within = size-le l q f; owner = name-max l q f; rdata = (allowed-parts zone q a).rdata })
+    value q f false a = let w : Ok r ≡ Err BadValue = e ∙ rw (f, a) refl in cc
 
-  module _ (n d : List ℕ) (i : n ≡ part s e.start e.namelen) (j : d ≡ part s (e.start + e.namelen + fixed_size) e.rdlen) where
-    pub checked-name : length n ≤ max_name
-    checked-name = let w = ap length i in omega (arith, name-max (drop at s) (record_of s e) c.places.there)
-
-    pub checked-rdata : length d ≤ max_rdata
-    checked-rdata = let w = ap length j in omega (arith, (allowed-parts zone (record_of s e) c.values).rdata)
-
-    module _ (store : List Record) (m : Applied) (b : List ℕ)
-        (a : store_of m b ≡ applied store (record_from n e.rrtype e.rrclass e.ttl d)) where
-      r : Record
-      r = record_of s e
-
-      gives : (f : Bool) → overfull store r ≡ f → store_of m b ≡ cond f none (some (edit store r))
-      unfolding r applied
-      gives f q =
-          a ∙ ap₂ (λ (n d : List ℕ). applied store (record_from n e.rrtype e.rrclass e.ttl d)) i j
-          ∙ ap (λ (f : Bool). cond f none (some (edit store (record_of s e)))) q
-
-      pub step-full : m ≡ Full → Steps zone s at store (Stop StoreFull) b
-      unfolding r
-      step-full f = go (overfull store r) refl
-        where
-          go : (t : Bool) → overfull store r ≡ t → Steps zone s at store (Stop StoreFull) b
-          go true q = record {
-            few = omega arith;
-            all = λ k. edited-full k zone (drop at s) store r c.places.there c.values q;
-          }
-          go false q =
-              let w : none ≡ some (edit store r) = ap (λ (m : Applied). store_of m b) (sym f) ∙ gives false q in
-              let z : ◌≡◌ {A = ℕ} 0 1 = cc in absurd (omega arith)
-
-      pub step-next : (x : ℕ) → count_of m ≤ max_records → m ≡ Count x → Steps zone s at store (Next (e.start + e.namelen + fixed_size + e.rdlen) x) b
-      unfolding r size
-      step-next x l f = go (overfull store r) refl
-        where
-          to : at + size r ≡ e.start + e.namelen + fixed_size + e.rdlen
-          to =
-              let p : at ≡ e.start = ap (λ (x : Edit). x.start) c.places.back in
-              let q : length (record_of s e).owner ≡ e.namelen = ap (λ (x : Edit). x.namelen) c.places.back in
-              let u : length (record_of s e).rdata ≡ e.rdlen = ap (λ (x : Edit). x.rdlen) c.places.back in
-              omega arith
-
-          go : (t : Bool) → overfull store r ≡ t → Steps zone s at store (Next (e.start + e.namelen + fixed_size + e.rdlen) x) b
-          go true q =
-              let w : some (records_of x b) ≡ none = ap (λ (m : Applied). store_of m b) (sym f) ∙ gives true q in
-              let z : ◌≡◌ {A = ℕ} 0 1 = cc in absurd (omega arith)
-          go false q =
-              let w : some (records_of x b) ≡ some (edit store r) = ap (λ (m : Applied). store_of m b) (sym f) ∙ gives false q in
-              let v : edit store r ≡ records_of x b = cc in
-              let y : count_of m ≡ x = ap count_of f in
-              record {
-                few = omega arith;
-                all = λ k. edited-step k zone (drop at s) store r c.places.there c.values q
-                    ∙ ap₂ (λ (l : List ℕ) (t : List Record). edited k zone l t) (drop-drop (size r) at s ∙ ap (λ (j : ℕ). drop j s) to) v;
-              }
+    go : (o : Option Record) → read_record l ≡ o → Checked zone l r
+    go None f = let w : Ok r ≡ Err Unreadable = e ∙ rw f refl in cc
+    go (Some q) f = value q f (allowed zone q) refl
 
 -- ---- the loop
 
-pub record Midway (zone bytes : List ℕ) (store : List Record) (left at n : ℕ) (area : List ℕ) : Type 0 where
+-- What is left of the batch gives the outcome.
+pub record Midway (zone bytes : List ℕ) (store : List Record) (turn at n : ℕ) (area : List ℕ) : Type 0 where
   pub few : n ≤ max_records
-  pub rest : batch_of zone bytes store ≡ edited left zone (drop at bytes) (records_of n area)
+  pub rest : batch_of zone bytes store ≡ edited (max_edits - turn) zone (drop at bytes) (records_of n area)
 
-pub midway-none : (zone bytes : List ℕ) (count : ℕ) (area : List ℕ) → count ≤ max_records
-    → Midway zone bytes (records_of count area) max_edits 0 count area
+pub midway_none : (zone bytes : List ℕ) (count : ℕ) (area : List ℕ) → count ≤ max_records
+    → Midway zone bytes (records_of count area) 0 0 count area
 unfolding batch_of
-midway-none zone bytes count area h = record { few = h; rest = refl }
+midway_none zone bytes count area h = record { few = h; rest = refl }
 
-module _ (zone bytes : List ℕ) (store : List Record) (left at n : ℕ) (area : List ℕ) (w : Midway zone bytes store left at n area) where
-  pub midway_end : length bytes ≤ at → edited_of (Stored n) area ≡ batch_of zone bytes store
+module _ (zone bytes : List ℕ) (store : List Record) (turn at n : ℕ) (area : List ℕ) (w : Midway zone bytes store turn at n area) where
+  pub midway_end : length bytes ≤ at → edited_of (Ok n) area ≡ batch_of zone bytes store
   midway_end h =
-      sym (w.rest ∙ ap (λ (l : List ℕ). edited left zone l (records_of n area)) (drop_of_length-le bytes h) ∙ edited-end left zone (records_of n area))
+      sym (w.rest ∙ ap (λ (l : List ℕ). edited (max_edits - turn) zone l (records_of n area)) (drop_of_length-le bytes h)
+      ∙ edited-end (max_edits - turn) zone (records_of n area))
 
-  pub midway-over : at < length bytes → left ≡ 0 → edited_of (Faulty TooManyEdits) area ≡ batch_of zone bytes store
-  midway-over h z =
-      sym (w.rest ∙ ap (λ (k : ℕ). edited k zone (drop at bytes) (records_of n area)) z
+  pub midway_over : at < length bytes → max_edits ≤ turn → edited_of (Err TooManyEdits) area ≡ batch_of zone bytes store
+  midway_over h z =
+      let e : max_edits - turn ≡ 0 = omega arith in
+      sym (w.rest ∙ ap (λ (k : ℕ). edited k zone (drop at bytes) (records_of n area)) e
       ∙ edited-more zone (drop at bytes) (records_of n area) (omega (arith, length-drop at bytes)))
 
-  module _ (r : Stepped) (b : List ℕ) (s : Steps zone bytes at (records_of n area) r b) (z : left ≡ 0 → ⊥) where
-    moved : batch_of zone bytes store ≡ onward (left - 1) zone bytes r b
-    moved =
-        let e : left ≡ suc (left - 1) = omega arith in
-        w.rest ∙ ap (λ (k : ℕ). edited k zone (drop at bytes) (records_of n area)) e ∙ s.all (left - 1)
+  module _ (h : at < length bytes) (g : turn < max_edits) where
+    first : batch_of zone bytes store ≡ after_check (max_edits - turn - 1) zone (drop at bytes) (records_of n area) (checked_at zone bytes at)
+    first =
+        let e : max_edits - turn ≡ suc (max_edits - turn - 1) = omega arith in
+        w.rest ∙ ap (λ (k : ℕ). edited k zone (drop at bytes) (records_of n area)) e
+        ∙ edited_first (max_edits - turn - 1) zone (drop at bytes) (records_of n area) (omega (arith, length-drop at bytes))
 
-    pub midway-stop : (f : BatchFault) → r ≡ Stop f → edited_of (Faulty f) b ≡ batch_of zone bytes store
-    midway-stop f e = sym (moved ∙ ap (λ (r : Stepped). onward (left - 1) zone bytes r b) e)
+    pub midway_bad : (f : BatchFault) → Err f ≡ checked_at zone bytes at → edited_of (Err f) area ≡ batch_of zone bytes store
+    midway_bad f e = sym (first ∙ ap (after_check (max_edits - turn - 1) zone (drop at bytes) (records_of n area)) (sym e))
 
-    pub midway-turn : (to m : ℕ) → r ≡ Next to m → Midway zone bytes store (left - 1) to m b
-    midway-turn to m e =
-        let c : counted r ≡ m = ap counted e in
-        record {
-          few = omega (arith, s.few);
-          rest = moved ∙ ap (λ (r : Stepped). onward (left - 1) zone bytes r b) e;
-        }
+    module _ (r : Record) (e : Ok r ≡ checked_at zone bytes at) where
+      second : batch_of zone bytes store ≡ after_edit (max_edits - turn - 1) zone (drop at bytes) r (applied (records_of n area) r)
+      second = first ∙ ap (after_check (max_edits - turn - 1) zone (drop at bytes) (records_of n area)) (sym e)
+
+      pub midway_full : (f : BatchFault) (b : List ℕ) → Err f ≡ applied (records_of n area) r → edited_of (Err f) b ≡ batch_of zone bytes store
+      midway_full f b q = sym (second ∙ ap (after_edit (max_edits - turn - 1) zone (drop at bytes) r) (sym q))
+
+      pub midway_turn : (m : ℕ) (b : List ℕ) → m ≤ max_records → Ok (records_of m b) ≡ applied (records_of n area) r
+          → Midway zone bytes store (turn + 1) (at + size r) m b
+      midway_turn m b l q = record {
+        few = l;
+        rest = let k : max_edits - turn - 1 ≡ max_edits - (turn + 1) = omega arith in
+            second ∙ ap (after_edit (max_edits - turn - 1) zone (drop at bytes) r) (sym q)
+            ∙ ap₂ (λ (k : ℕ) (l : List ℕ). edited k zone l (records_of m b)) k (drop-drop (size r) at bytes);
+      }
+
+pub ruleset of_batches = (midway_none, midway_end, midway_over, midway_bad, midway_full, midway_turn)
 
 -- ---- the copy that a batch begins with
 

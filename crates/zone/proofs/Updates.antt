@@ -93,9 +93,9 @@ module _ (p : Record → Bool) (l₀ l m : List Record) (i : ℕ) (d : Record) w
 record-there : (n : ℕ) (a : List ℕ) (i : ℕ) → n ≤ max_records → i < n → get_or (records_of n a) i no_record ≡ rec_of (block_at a i)
 record-there n a i h g = records-at n a i (omega (arith, min-eq_left h))
 
-pub ttl-set : (t : ℕ) (a : List ℕ) (i : ℕ) (b : List ℕ) → length a ≡ area_size → i < max_records → t < 256 ^ 4
+pub ttl_set : (t : ℕ) (a : List ℕ) (i : ℕ) (b : List ℕ) → length a ≡ area_size → i < max_records → t < 256 ^ 4
     → b ≡ sets a (i * block_size + 6) (octets 4 t) → TtlSet t a i b
-ttl-set t a i b l h f e = record {
+ttl_set t a i b l h f e = record {
   store = λ n m g. ap (records_of n) e ∙ records-sets n a i 6 (octets 4 t) m g (omega (arith, length-octets 4 t))
       ∙ ap (set (records_of n a) i) (rec_of-timed (block_at a i) t (omega (arith, length-block a i l h)) f);
 }
@@ -104,11 +104,11 @@ module _ (k : Key) (t : ℕ) (a : List ℕ) (i : ℕ) (b : List ℕ) (u : Bool) 
   chosen : (v : Bool) → u ≡ v → set_if k t (rec_of (block_at a i)) ≡ cond v (with_ttl t (rec_of (block_at a i))) (rec_of (block_at a i))
   chosen v g = ap (λ (x : Bool). cond x (with_ttl t (rec_of (block_at a i))) (rec_of (block_at a i))) (sym f ∙ g)
 
-  pub ttl-set-true : u ≡ true → TtlSet t a i b → TtlSetIf k t a i b
-  ttl-set-true g s = record { store = λ n m h. s.store n m h ∙ ap (set (records_of n a) i) (sym (chosen true g)) }
+  pub ttl_set_true : u ≡ true → TtlSet t a i b → TtlSetIf k t a i b
+  ttl_set_true g s = record { store = λ n m h. s.store n m h ∙ ap (set (records_of n a) i) (sym (chosen true g)) }
 
-  pub ttl-set-false : u ≡ false → TtlSetIf k t a i a
-  ttl-set-false g = record {
+  pub ttl_set_false : u ≡ false → TtlSetIf k t a i a
+  ttl_set_false g = record {
     store = λ n m h. sym (ap (set (records_of n a) i) (chosen false g ∙ sym (record-there n a i m h)) ∙ set-get_or (records_of n a) i no_record);
   }
 
@@ -117,9 +117,9 @@ pub record Timed (k : Key) (t n : ℕ) (a b : List ℕ) (i : ℕ) : Type 0 where
   pub few : i ≤ n
   pub store : map (set_if k t) (records_of n a) ≡ take i (records_of n b) ++ map (set_if k t) (drop i (records_of n b))
 
-pub timed-turn : (k : Key) (t n : ℕ) (a b : List ℕ) (i : ℕ) (c : List ℕ) → Timed k t n a b i → n ≤ max_records → i < n
+pub timed_turn : (k : Key) (t n : ℕ) (a b : List ℕ) (i : ℕ) (c : List ℕ) → Timed k t n a b i → n ≤ max_records → i < n
     → TtlSetIf k t b i c → Timed k t n a c (i + 1)
-timed-turn k t n a b i c s h g e =
+timed_turn k t n a b i c s h g e =
     let w = length-records n b in
     let m = min-eq_left h in
     record {
@@ -128,9 +128,9 @@ timed-turn k t n a b i c s h g e =
           (e.store n h g ∙ ap (λ (r : Record). set (records_of n b) i (set_if k t r)) (sym (record-there n b i h g)));
     }
 
-pub timed-all : (k : Key) (t n : ℕ) (a b : List ℕ) (i : ℕ) → Timed k t n a b i → n ≤ max_records → n ≤ i
+pub timed_all : (k : Key) (t n : ℕ) (a b : List ℕ) (i : ℕ) → Timed k t n a b i → n ≤ max_records → n ≤ i
     → records_of n b ≡ map (set_if k t) (records_of n a)
-timed-all k t n a b i s h g =
+timed_all k t n a b i s h g =
     let w = length-records n b in
     let m = min-eq_left h in
     let l : List Record = records_of n b in
@@ -140,23 +140,23 @@ timed-all k t n a b i s h g =
 
 -- ---- every record with a key gone
 
-pub records-slid : (n : ℕ) (a b : List ℕ) (i : ℕ) → length a ≡ area_size → n ≤ max_records → i < n
+pub records_slid : (n : ℕ) (a b : List ℕ) (i : ℕ) → length a ≡ area_size → n ≤ max_records → i < n
     → b ≡ slid a (i * block_size) (i * block_size + block_size) ((n - 1 - i) * block_size) → records_of (n - 1) b ≡ cut i (records_of n a)
-records-slid n a b i l h g e =
+records_slid n a b i l h g e =
     records-plain (n - 1) b (omega arith) ∙ ap (λ (b : List ℕ). map rec_of (blocks block_size (n - 1) b)) e
     ∙ ap (map rec_of) (blocks-slid block_size n a i g (omega arith)) ∙ map-cut rec_of i (blocks block_size n a)
     ∙ ap (cut i) (sym (records-plain n a h))
 
 module _ (k : Key) (a : List ℕ) (n i : ℕ) (b : List ℕ) (u : Bool) (f : u ≡ keyed a i k) where
-  pub dropped_if-true : u ≡ true → i < n → records_of (n - 1) b ≡ cut i (records_of n a) → DroppedIf k a n i b (n - 1)
-  dropped_if-true g h s = record {
+  pub dropped_if_true : u ≡ true → i < n → records_of (n - 1) b ≡ cut i (records_of n a) → DroppedIf k a n i b (n - 1)
+  dropped_if_true g h s = record {
     few = omega arith;
     most = omega arith;
     store = s ∙ ap (λ (u : Bool). cond u (cut i (records_of n a)) (records_of n a)) (sym g ∙ f);
   }
 
-  pub dropped_if-false : u ≡ false → DroppedIf k a n i a n
-  dropped_if-false g = record {
+  pub dropped_if_false : u ≡ false → DroppedIf k a n i a n
+  dropped_if_false g = record {
     few = omega arith;
     most = omega arith;
     store = ap (λ (u : Bool). cond u (cut i (records_of n a)) (records_of n a)) (sym g ∙ f);
@@ -171,9 +171,9 @@ pub record Dropped (k : Key) (count : ℕ) (a b : List ℕ) (n i : ℕ) : Type 0
   pub left : i ≤ n
   pub store : remove k (records_of count a) ≡ keep (others k) (take i (records_of n b)) ++ drop i (records_of n b)
 
-pub dropped-none : (k : Key) (count : ℕ) (a : List ℕ) → count ≤ max_records → Dropped k count a a count count
+pub dropped_none : (k : Key) (count : ℕ) (a : List ℕ) → count ≤ max_records → Dropped k count a a count count
 unfolding remove
-dropped-none k count a h =
+dropped_none k count a h =
     let l : List Record = records_of count a in
     let w = length-records count a in
     let m = min-eq_left h in
@@ -184,10 +184,10 @@ dropped-none k count a h =
           ∙ append-nil (keep (others k) l));
     }
 
-pub dropped-turn : (k : Key) (count : ℕ) (a b : List ℕ) (n i : ℕ) (c : List ℕ) (m : ℕ) → Dropped k count a b n i → 0 < i
+pub dropped_turn : (k : Key) (count : ℕ) (a b : List ℕ) (n i : ℕ) (c : List ℕ) (m : ℕ) → Dropped k count a b n i → 0 < i
     → DroppedIf k b n (i - 1) c m → Dropped k count a c m (i - 1)
 unfolding remove
-dropped-turn k count a b n i c m s h d =
+dropped_turn k count a b n i c m s h d =
     let l : List Record = records_of n b in
     let j : ℕ = i - 1 in
     let e : i ≡ suc (i - 1) = omega arith in
@@ -207,8 +207,14 @@ dropped-turn k count a b n i c m s h d =
     swap true x y = refl
     swap false x y = refl
 
-pub dropped-all : (k : Key) (count : ℕ) (a b : List ℕ) (n i : ℕ) → Dropped k count a b n i → i ≤ 0
+pub dropped_all : (k : Key) (count : ℕ) (a b : List ℕ) (n i : ℕ) → Dropped k count a b n i → i ≤ 0
     → (n ≤ max_records) × (records_of n b ≡ remove k (records_of count a))
-dropped-all k count a b n i s h =
+dropped_all k count a b n i s h =
     let z : i ≡ 0 = omega arith in
     (s.few, sym (s.store ∙ ap (λ (i : ℕ). keep (others k) (take i (records_of n b)) ++ drop i (records_of n b)) z))
+
+pub ruleset of_timing = (ttl_set_true, ttl_set_false)
+
+pub ruleset of_dropping = (dropped_if_true, dropped_if_false)
+
+pub ruleset of_thinning = (dropped_none, dropped_turn, dropped_all)

@@ -1,6 +1,5 @@
 -- A batch: edits end to end in the layout of a record, read from left to right; the first fault decides.
-use Rattle.std.specs.Prelude.{ℕ, zero, suc, Bool, true, false, cond, not, ◌&&◌, ◌||◌, List, [], ◌∷◌, length, drop, leb, eqb}
-use Rattle.std.proofs.Math.Option.{none, some}
+use Rattle.std.specs.Prelude.{ℕ, zero, suc, Bool, true, false, cond, not, ◌&&◌, ◌||◌, None, Some, List, [], ◌∷◌, length, drop, leb, eqb}
 use Rattle.wire.specs.Name.{within}
 use Rattle.zone.specs.Record.{Record, key_of}
 use Rattle.zone.specs.Store.{held, put, remove}
@@ -59,8 +58,8 @@ edited zero zone (b ∷ l) store = faulty TooManyEdits
 edited (suc n) zone [] store = stored store
 edited (suc n) zone (b ∷ l) store =
     elim (read_record (b ∷ l)) [
-      | none ↦ faulty Unreadable
-      | some r ↦ elim (allowed zone r) [
+      | None ↦ faulty Unreadable
+      | Some r ↦ elim (allowed zone r) [
         | false ↦ faulty BadValue
         | true ↦ elim (overfull store r) [
           | true ↦ faulty StoreFull

@@ -1,7 +1,6 @@
 -- A record in octets (RFC 8765, 6.3.1, figure 3, without compression): name, type, class, TTL of 32 bits, RDLEN, RDATA.
 -- Edits of a batch and change notifications have this layout alike.
-use Rattle.std.specs.Prelude.{ℕ, ◌+◌, cond, List, ◌++◌, length, take, drop, leb}
-use Rattle.std.proofs.Math.Option.{Option, none, some}
+use Rattle.std.specs.Prelude.{ℕ, ◌+◌, cond, Option, None, Some, List, ◌++◌, length, take, drop, leb}
 use Rattle.wire.specs.Field.{field, octets}
 use Rattle.wire.specs.Name.{name_length}
 use Rattle.zone.specs.Record.{Record}
@@ -24,7 +23,7 @@ record_octets r =
 unfoldable pub read_after : List ℕ → List ℕ → Option Record
 read_after owner l =
     cond (leb (fixed_size + field 2 (drop 8 l)) (length l))
-    (some
+    (Some
     (record {
       owner = owner;
       rrtype = field 2 l;
@@ -32,8 +31,8 @@ read_after owner l =
       ttl = field 4 (drop 4 l);
       rdata = take (field 2 (drop 8 l)) (drop fixed_size l);
     }))
-    none
+    None
 
 -- The record at the front of a list of octets, if one stands there; `size` says how many octets it takes.
 unfoldable pub read_record : List ℕ → Option Record
-read_record l = elim (name_length l) [ none ↦ none | some n ↦ read_after (take n l) (drop n l) ]
+read_record l = elim (name_length l) [ None ↦ None | Some n ↦ read_after (take n l) (drop n l) ]

@@ -1,17 +1,14 @@
 -- The store in lent memory: a count of records, and blocks of which each holds a record. Any numbers and any octets are
 -- a store: a count over 40 counts as 40, and a part is no longer than its place in the block.
-use Rattle.std.specs.Prelude.{ℕ, min, ◌+◌, ◌*◌, cond, List, [], ◌∷◌, map, drop}
-use Rattle.std.proofs.Math.Option.{Option, none, some}
+use Rattle.std.specs.Prelude.{ℕ, min, ◌+◌, ◌*◌, cond, Option, None, Some, List, [], ◌∷◌, map, drop}
 use Rattle.wire.specs.Field.{field}
 use Rattle.wire.specs.Part.{part}
 use Rattle.wire.specs.Name.{max_name, lowered, after}
 use Rattle.table.specs.Blocks.{blocks, text_at}
 use Rattle.zone.specs.Record.{Record, Key, key_of, same_key}
 use Rattle.zone.specs.Batch.{max_records, max_rdata}
-use Rattle.zone.specs.declared.records.Found.{Found}
 use Rattle.zone.specs.declared.records.Store.{Store}
 use Rattle.zone.specs.declared.records.RecordKey.{RecordKey}
-use Rattle.zone.specs.declared.records.Found.TheVariants.{At, Nothing}
 
 -- A block: the length of the owner and of the RDATA, an octet each; type, class and TTL; room for the longest name and
 -- the longest RDATA.
@@ -61,9 +58,5 @@ key_in k = key_from k.name.now k.rrtype k.rrclass k.rdata.now
 
 -- Where the first record with a key stands.
 unfoldable pub index_of : Key → List Record → Option ℕ
-index_of k [] = none
-index_of k (r ∷ l) = cond (same_key (key_of r) k) (some 0) (after 1 (index_of k l))
-
-abbrev pub found_at : Option ℕ → Found
-found_at none = Nothing
-found_at (some i) = At i
+index_of k [] = None
+index_of k (r ∷ l) = cond (same_key (key_of r) k) (Some 0) (after 1 (index_of k l))

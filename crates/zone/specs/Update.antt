@@ -1,6 +1,5 @@
 -- What one step of the code makes of the memory and the count.
-use Rattle.std.specs.Prelude.{ℕ, ◌+◌, ◌≤◌, ◌<◌, ◌≡◌, Bool, true, cond, List, set}
-use Rattle.std.proofs.Math.Option.{Option, none, some}
+use Rattle.std.specs.Prelude.{ℕ, ◌+◌, ◌≤◌, ◌<◌, ◌≡◌, Bool, true, cond, Result, Ok, Err, List, set}
 use Rattle.std.proofs.lemmas.List.Edits.{sets}
 use Rattle.wire.specs.Field.{octets}
 use Rattle.table.specs.Blocks.{cut}
@@ -8,8 +7,8 @@ use Rattle.zone.specs.Record.{Record, Key, key_of, same_key}
 use Rattle.zone.specs.Store.{with_ttl, set_if}
 use Rattle.zone.specs.Batch.{max_records, overfull, edit}
 use Rattle.zone.specs.Table.{block_at, rec_of, records_of}
-use Rattle.zone.specs.declared.editing.Applied.{Applied}
-use Rattle.zone.specs.declared.editing.Applied.TheVariants.{Count, Full}
+use Rattle.zone.specs.declared.BatchFault.{BatchFault}
+use Rattle.zone.specs.declared.BatchFault.TheVariants.{StoreFull}
 
 -- Whether the record in a block has a key.
 abbrev pub keyed : List ℕ → ℕ → Key → Bool
@@ -36,18 +35,6 @@ pub record DroppedIf (k : Key) (area : List ℕ) (n i : ℕ) (after : List ℕ) 
   pub most : n ≤ m + 1
   pub store : records_of m after ≡ cond (keyed area i k) (cut i (records_of n area)) (records_of n area)
 
--- The count that an edit gives, and the store; none where a put finds 40 others.
-abbrev pub count_of : Applied → ℕ
-count_of (Count n) = n
-count_of Full = 0
-
-abbrev pub store_of : Applied → List ℕ → Option (List Record)
-store_of (Count n) after = some (records_of n after)
-store_of Full after = none
-
-unfoldable pub applied : List Record → Record → Option (List Record)
-applied store r = cond (overfull store r) none (some (edit store r))
-
-pub record AppliedAs (area : List ℕ) (n : ℕ) (r : Record) (a : Applied) (after : List ℕ) : Type 0 where
-  pub few : count_of a ≤ max_records
-  pub store : store_of a after ≡ applied (records_of n area) r
+-- The store after an edit; none where a put finds 40 others.
+unfoldable pub applied : List Record → Record → Result (List Record) BatchFault
+applied store r = cond (overfull store r) (Err StoreFull) (Ok (edit store r))

@@ -1,67 +1,50 @@
 // Edits of the store in lent memory: a TTL set, a record removed and the gap closed, a record added at the end; and a batch of them,
 // applied in a second area: the old one is only read, so a refused batch leaves the store as it was.
-ghost use Rattle.std.specs.Prelude.{◌+◌, ◌-◌, ◌≤◌, ◌<◌, ◌≡◌, [], ◌∷◌, ◌++◌, map, length};
-ghost use Rattle.std.proofs.Math.Option.{some};
+ghost use Rattle.std.specs.Prelude.{◌+◌, ◌-◌, ◌≤◌, ◌<◌, ◌≡◌, [], ◌∷◌, ◌++◌, map, Some, IfOk};
 ghost use Rattle.table.specs.Blocks.{cut};
-ghost use Rattle.wire.specs.Name.{max_name};
 ghost use Rattle.zone.specs.Store.{set_if, remove as removed};
-ghost use Rattle.zone.specs.Batch.{max_records, max_rdata, max_ttl, batch_of};
-ghost use Rattle.zone.specs.Table.{block_size, area_size, records_of, record_from, key_from, index_of};
-ghost use Rattle.zone.specs.Update.{TtlSet, TtlSetIf, DroppedIf, AppliedAs, numbered};
-ghost use Rattle.zone.specs.Batches.{Steps, edited_of};
+ghost use Rattle.zone.specs.Batch.{max_records, max_ttl, batch_of};
+ghost use Rattle.zone.specs.Table.{block_size, area_size, records_of, records_in, key_in, index_of};
+ghost use Rattle.zone.specs.Edit.{record_of, FitsBlock, ok_map};
+ghost use Rattle.zone.specs.Update.{TtlSet, TtlSetIf, DroppedIf, applied, numbered};
+ghost use Rattle.zone.specs.Batches.{edited_of};
 
 use crate::BatchFault;
-use crate::reading::{CheckedEdit, FIXED, MAX_TTL, checked_edit};
-use crate::records::{
-    Area, BLOCK, Found, OWNER, RDATA, RECORDS, RRCLASS, RRTYPE, TTL, clamped, find, has_key_at,
-};
+use crate::reading::{Edit, MAX_TTL, checked_edit};
+use crate::records::{Area, BLOCK, OWNER, RDATA, RECORDS, RRCLASS, RRTYPE, RecordKey, Store, TTL};
 use table::part;
 
+#[tactic(auto, using(crate::proofs::Updates::ttl_set))]
 fn set_ttl(area: &mut Area, i: usize, ttl: u32)
     requires { i < max_records }
     ensures { TtlSet ttl area.old i area.new }
 {
-    wire::write32(area, i * BLOCK + TTL, ttl);
+    wire::write_field(area, i * BLOCK + TTL, ttl);
 }
 
-fn set_ttl_if(
-    area: &mut Area,
-    i: usize,
-    name: &[u8],
-    rrtype: u16,
-    rrclass: u16,
-    rdata: &[u8],
-    ttl: u32,
-)
+#[tactic(auto, using(crate::proofs::Updates::of_timing))]
+fn set_ttl_if(area: &mut Area, n: usize, i: usize, edit: Edit<'_>)
     requires { i < max_records }
-    ensures { TtlSetIf (key_from name.now rrtype rrclass rdata.now) ttl area.old i area.new }
+    ensures { TtlSetIf (key_in edit.entry.key) edit.entry.ttl area.old i area.new }
 {
-    if has_key_at(area, i, name, rrtype, rrclass, rdata) {
-        set_ttl(area, i, ttl);
+    let store = Store { area, count: n };
+    if store.block(i).is_keyed(edit.key) {
+        set_ttl(area, i, edit.ttl);
     }
 }
 
-// The TTL of every record with a key, from the first of them on.
-fn set_ttls(
-    area: &mut Area,
-    n: usize,
-    first: usize,
-    name: &[u8],
-    rrtype: u16,
-    rrclass: u16,
-    rdata: &[u8],
-    ttl: u32,
-)
-    requires { (n ≤ max_records) × (index_of (key_from name.now rrtype rrclass rdata.now) (records_of n area.old) ≡ some first) }
-    ensures { records_of n area.new ≡ map (set_if (key_from name.now rrtype rrclass rdata.now) ttl) (records_of n area.old) }
+// The TTL of every record with the edit's key, from the first of them on.
+#[tactic(auto, using(crate::proofs::Applies::of_sweeping))]
+fn set_ttls(area: &mut Area, n: usize, first: usize, edit: Edit<'_>)
+    requires { (n ≤ max_records) × (index_of (key_in edit.key) (records_of n area.old) ≡ Some first) }
+    ensures { records_of n area.new ≡ map (set_if (key_in edit.entry.key) edit.entry.ttl) (records_of n area.old) }
 {
-    let mut i = first;
-    while i < n {
-        set_ttl_if(area, i, name, rrtype, rrclass, rdata, ttl);
-        i += 1;
+    for i in first..n {
+        set_ttl_if(area, n, i, edit);
     }
 }
 
+#[tactic(auto, using(crate::proofs::Updates::records_slid))]
 fn close_gap(area: &mut Area, n: usize, i: usize)
     requires { (i < n) × (n ≤ max_records) }
     ensures { records_of (n - 1) area.new ≡ cut i (records_of n area.old) }
@@ -70,19 +53,13 @@ fn close_gap(area: &mut Area, n: usize, i: usize)
     table::slide(area, at, at + BLOCK, (n - 1 - i) * BLOCK);
 }
 
-fn remove_if(
-    area: &mut Area,
-    n: usize,
-    i: usize,
-    name: &[u8],
-    rrtype: u16,
-    rrclass: u16,
-    rdata: &[u8],
-) -> usize
+#[tactic(auto, using(crate::proofs::Updates::of_dropping))]
+fn remove_if(area: &mut Area, n: usize, i: usize, key: RecordKey<'_>) -> usize
     requires { (i < n) × (n ≤ max_records) }
-    ensures { DroppedIf (key_from name.now rrtype rrclass rdata.now) area.old n i area.new result }
+    ensures { DroppedIf (key_in key.entry) area.old n i area.new result }
 {
-    if has_key_at(area, i, name, rrtype, rrclass, rdata) {
+    let store = Store { area, count: n };
+    if store.block(i).is_keyed(key) {
         close_gap(area, n, i);
         return n - 1;
     }
@@ -90,164 +67,106 @@ fn remove_if(
 }
 
 // Every record with a key, from the last to the first; the count that is left.
-fn remove(
-    area: &mut Area,
-    count: usize,
-    name: &[u8],
-    rrtype: u16,
-    rrclass: u16,
-    rdata: &[u8],
-) -> usize
+#[tactic(auto, using(crate::proofs::Updates::of_thinning))]
+fn remove(area: &mut Area, count: usize, key: RecordKey<'_>) -> usize
     requires { count ≤ max_records }
-    ensures { (result ≤ max_records) × (records_of result area.new ≡ removed (key_from name.now rrtype rrclass rdata.now) (records_of count area.old)) }
+    ensures { (result ≤ max_records) × (records_of result area.new ≡ removed (key_in key.entry) (records_of count area.old)) }
 {
     let mut n = count;
-    let mut i = count;
-    while 0 < i {
-        i -= 1;
-        n = remove_if(area, n, i, name, rrtype, rrclass, rdata);
+    for i in (0..count).rev() {
+        n = remove_if(area, n, i, key);
     }
     n
 }
 
-fn write_numbers(area: &mut Area, at: usize, rrtype: u16, rrclass: u16, ttl: u32)
+fn write_numbers(area: &mut Area, at: usize, edit: Edit<'_>)
     requires { at + block_size ≤ area_size }
-    ensures { area.new ≡ numbered area.old at rrtype rrclass ttl }
+    ensures { area.new ≡ numbered area.old at edit.entry.key.rrtype edit.entry.key.rrclass edit.entry.ttl }
 {
-    wire::write16(area, at + RRTYPE, rrtype);
-    wire::write16(area, at + RRCLASS, rrclass);
-    wire::write32(area, at + TTL, ttl);
+    wire::write_field(area, at + RRTYPE, edit.key.rrtype);
+    wire::write_field(area, at + RRCLASS, edit.key.rrclass);
+    wire::write_field(area, at + TTL, edit.ttl);
 }
 
 // A record behind the last one.
-fn append(area: &mut Area, n: usize, name: &[u8], rrtype: u16, rrclass: u16, ttl: u32, rdata: &[u8])
-    requires { (n < max_records) × (length name.now ≤ max_name) × (length rdata.now ≤ max_rdata) }
-    ensures { records_of (n + 1) area.new ≡ records_of n area.old ++ (record_from name.now rrtype rrclass ttl rdata.now ∷ []) }
+#[tactic(auto, using(crate::proofs::Filled::appended))]
+fn append(area: &mut Area, n: usize, edit: Edit<'_>)
+    requires { (n < max_records) × FitsBlock edit }
+    ensures { records_of (n + 1) area.new ≡ records_of n area.old ++ (record_of edit.entry ∷ []) }
 {
     let at = n * BLOCK;
+    let name = edit.key.name;
+    let rdata = edit.key.rdata;
     let lengths = [name.len() as u8, rdata.len() as u8];
     wire::write_octets(area, at, &lengths);
-    write_numbers(area, at, rrtype, rrclass, ttl);
+    write_numbers(area, at, edit);
     wire::write_octets(area, at + OWNER, name);
     wire::write_octets(area, at + RDATA, rdata);
 }
 
-// How many records there are after an edit; or a put found 40 others.
-#[derive(Clone, Copy)]
-pub enum Applied {
-    Count(usize),
-    Full,
-}
-
-fn put(
-    area: &mut Area,
-    n: usize,
-    name: &[u8],
-    rrtype: u16,
-    rrclass: u16,
-    ttl: u32,
-    rdata: &[u8],
-) -> Applied
-    requires { (n ≤ max_records) × (length name.now ≤ max_name) × (length rdata.now ≤ max_rdata) × (ttl ≤ max_ttl) }
-    ensures { AppliedAs area.old n (record_from name.now rrtype rrclass ttl rdata.now) result area.new }
+// How many records there are after an edit; it is refused where a put finds 40 others.
+#[tactic(auto, using(crate::proofs::Applies::of_putting))]
+fn put(area: &mut Area, n: usize, edit: Edit<'_>) -> Result<usize, BatchFault>
+    requires { (n ≤ max_records) × FitsBlock edit × (edit.ttl ≤ max_ttl) }
+    ensures few { IfOk result (λ m. m ≤ max_records) }
+    ensures store { ok_map (λ m. records_of m area.new) result ≡ applied (records_of n area.old) (record_of edit.entry) }
 {
-    if let Found::At(i) = find(area, n, name, rrtype, rrclass, rdata) {
-        set_ttls(area, n, i, name, rrtype, rrclass, rdata, ttl);
-        return Applied::Count(n);
+    let store = Store { area, count: n };
+    if let Some(i) = store.find(edit.key) {
+        set_ttls(area, n, i, edit);
+        return Ok(n);
     }
     if RECORDS <= n {
-        return Applied::Full;
+        return Err(BatchFault::StoreFull);
     }
-    append(area, n, name, rrtype, rrclass, ttl, rdata);
-    Applied::Count(n + 1)
+    append(area, n, edit);
+    Ok(n + 1)
 }
 
 // One edit: a put, or the removal of what has the key.
-fn apply(
-    area: &mut Area,
-    n: usize,
-    name: &[u8],
-    rrtype: u16,
-    rrclass: u16,
-    ttl: u32,
-    rdata: &[u8],
-) -> Applied
-    requires { (n ≤ max_records) × (length name.now ≤ max_name) × (length rdata.now ≤ max_rdata) }
-    ensures { AppliedAs area.old n (record_from name.now rrtype rrclass ttl rdata.now) result area.new }
+#[tactic(auto, using(crate::proofs::Applies::removed))]
+fn apply(area: &mut Area, n: usize, edit: Edit<'_>) -> Result<usize, BatchFault>
+    requires { (n ≤ max_records) × FitsBlock edit }
+    ensures few { IfOk result (λ m. m ≤ max_records) }
+    ensures store { ok_map (λ m. records_of m area.new) result ≡ applied (records_of n area.old) (record_of edit.entry) }
 {
-    if ttl <= MAX_TTL {
-        return put(area, n, name, rrtype, rrclass, ttl, rdata);
+    if edit.ttl <= MAX_TTL {
+        return put(area, n, edit);
     }
-    Applied::Count(remove(area, n, name, rrtype, rrclass, rdata))
+    Ok(remove(area, n, edit.key))
 }
 
 // The most edits of a batch.
 pub const EDITS: usize = 32;
 
-// Where the next edit begins and how many records there are now; or why the batch is refused.
-#[derive(Clone, Copy)]
-pub enum Stepped {
-    Next(usize, usize),
-    Stop(BatchFault),
-}
-
-fn step(zone: &[u8], bytes: &[u8], at: usize, n: usize, area: &mut Area) -> Stepped
-    requires { (n ≤ max_records) × (at < length bytes.now) }
-    ensures { Steps zone.now bytes.now at (records_of n area.old) result area.new }
-{
-    let checked = checked_edit(zone, bytes, at);
-    match checked {
-        CheckedEdit::Fault(f) => Stepped::Stop(f),
-        CheckedEdit::Good(e) => {
-            let start = e.start;
-            let namelen = e.namelen;
-            let rdlen = e.rdlen;
-            let name = part(bytes, start, namelen);
-            let rest = start + namelen + FIXED;
-            let rdata = part(bytes, rest, rdlen);
-            match apply(area, n, name, e.rrtype, e.rrclass, e.ttl, rdata) {
-                Applied::Full => Stepped::Stop(BatchFault::StoreFull),
-                Applied::Count(m) => Stepped::Next(rest + rdlen, m),
-            }
-        }
-    }
-}
-
-#[derive(Clone, Copy)]
-pub enum BatchResult {
-    // The new store has so many records.
-    Stored(usize),
-    Faulty(BatchFault),
-}
-
-fn edit_all(zone: &[u8], bytes: &[u8], count: usize, area: &mut Area) -> BatchResult
+#[tactic(auto, using(crate::proofs::Steps::of_batches))]
+fn edit_all(zone: &[u8], bytes: &[u8], count: usize, area: &mut Area) -> Result<usize, BatchFault>
     requires { count ≤ max_records }
     ensures { edited_of result area.new ≡ batch_of zone.now bytes.now (records_of count area.old) }
 {
     let mut at = 0;
     let mut n = count;
-    let mut left = EDITS;
-    while at < bytes.len() {
-        if left == 0 {
-            return BatchResult::Faulty(BatchFault::TooManyEdits);
+    for _turn in 0..EDITS {
+        if bytes.len() <= at {
+            return Ok(n);
         }
-        match step(zone, bytes, at, n, area) {
-            Stepped::Stop(f) => return BatchResult::Faulty(f),
-            Stepped::Next(next, m) => {
-                at = next;
-                n = m;
-            }
-        }
-        left -= 1;
+        let edit = checked_edit(zone, bytes, at)?;
+        n = apply(area, n, edit)?;
+        at += edit.size();
     }
-    BatchResult::Stored(n)
+    if at < bytes.len() {
+        return Err(BatchFault::TooManyEdits);
+    }
+    Ok(n)
 }
 
-// Only the blocks in use are copied.
-pub fn batch(zone: &[u8], bytes: &[u8], old: &Area, count: usize, new: &mut Area) -> BatchResult
-    ensures { edited_of result new.new ≡ batch_of zone.now bytes.now (records_of count old.now) }
+// How many records the new store has. Only the blocks in use are copied.
+#[tactic(auto, using(crate::proofs::Steps::batched))]
+pub fn batch(zone: &[u8], bytes: &[u8], old: Store<'_>, new: &mut Area) -> Result<usize, BatchFault>
+    ensures { edited_of result new.new ≡ batch_of zone.now bytes.now (records_in old.entry) }
 {
-    let n = clamped(count);
-    wire::write_octets(new, 0, part(old, 0, n * BLOCK));
+    let n = old.len();
+    let area = old.area;
+    wire::write_octets(new, 0, part(area, 0, n * BLOCK));
     edit_all(zone, bytes, n, new)
 }

@@ -5,15 +5,12 @@ mod editing;
 mod reading;
 mod records;
 
-pub use editing::{BatchResult, EDITS, batch};
-pub use reading::{CheckedEdit, Edit, EditReading, allowed, checked_edit, read_edit};
-pub use records::{
-    AREA, Area, BLOCK, Found, RECORDS, RecordKey, Store, Zone, block, clamped, find, has_key, owner, rdata, rrclass,
-    rrtype, ttl,
-};
+pub use editing::{EDITS, batch};
+pub use reading::{Edit, allowed, checked_edit, read_edit};
+pub use records::{AREA, Area, BLOCK, Block, RECORDS, RecordKey, Store, Zone};
 
 // Why a batch is refused (01, answers 16, 14, 15 and 17).
-#[derive(Clone, Copy)]
+#[derive(Clone, Copy, PartialEq, Eq, Debug)]
 pub enum BatchFault {
     TooManyEdits,
     Unreadable,

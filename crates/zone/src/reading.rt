@@ -1,12 +1,13 @@
 // One edit of a batch: reading it, and whether its values are allowed.
-ghost use Rattle.std.specs.Prelude.{◌≡◌};
+ghost use Rattle.std.specs.Prelude.{◌^◌, ◌<◌, ◌≡◌, drop, option_map};
+ghost use Rattle.zone.specs.Layout.{size, read_record};
 ghost use Rattle.zone.specs.Batch.{is_plain, allowed as allowed_in};
-ghost use Rattle.zone.specs.Table.{record_from};
-ghost use Rattle.zone.specs.Edit.{edit_at, ttl_may, checked_at};
+ghost use Rattle.zone.specs.Edit.{record_of, ttl_may, ok_map, checked_at};
 
-use crate::records::MAX_RDATA;
+use crate::BatchFault;
+use crate::records::{MAX_RDATA, RecordKey};
 use table::part;
-use wire::{NameReading, field16, field32, name_at};
+use wire::{name_at, read_field};
 
 // A TTL up to this one puts; the other one removes.
 pub(crate) const MAX_TTL: u32 = 0x7fff_ffff;
@@ -19,98 +20,77 @@ const ANY: u16 = 255;
 // The octets of type, class, TTL and RDLEN.
 pub(crate) const FIXED: usize = 10;
 
-// An edit in a batch's octets: where it begins, how long its name and its RDATA are, and its numbers.
+// An edit of a batch, as it stands in the batch's octets: the record that it puts or removes.
 #[derive(Clone, Copy)]
-pub struct Edit {
-    pub start: usize,
-    pub namelen: usize,
-    pub rrtype: u16,
-    pub rrclass: u16,
+pub struct Edit<'a> {
+    pub key: RecordKey<'a>,
     pub ttl: u32,
-    pub rdlen: usize,
 }
 
-#[derive(Clone, Copy)]
-pub enum EditReading {
-    Read(Edit),
-    Unreadable,
-}
-
-pub fn read_edit(bytes: &[u8], at: usize) -> EditReading
-    ensures { result ≡ edit_at bytes.now at }
-{
-    let NameReading::Name(namelen) = name_at(bytes, at) else {
-        return EditReading::Unreadable;
-    };
-    let fixed = at + namelen;
-    let rdlen = field16(bytes, fixed + 8) as usize;
-    if bytes.len() - fixed < FIXED + rdlen {
-        return EditReading::Unreadable;
+impl<'a> Edit<'a> {
+    // The octets of the edit.
+    #[tactic(auto, unfolding(crate::specs::Layout::size))]
+    pub(crate) fn size(self) -> usize
+        requires { size (record_of self) < 2 ^ 64 }
+        ensures { result ≡ size (record_of self.entry) }
+    {
+        self.key.name.len() + FIXED + self.key.rdata.len()
     }
-    EditReading::Read(Edit {
-        start: at,
-        namelen,
-        rrtype: field16(bytes, fixed),
-        rrclass: field16(bytes, fixed + 2),
-        ttl: field32(bytes, fixed + 4),
-        rdlen,
+}
+
+#[tactic(auto, using(crate::proofs::Readings::of_reading))]
+pub fn read_edit(bytes: &[u8], at: usize) -> Option<Edit<'_>>
+    ensures { option_map record_of result ≡ read_record (drop at bytes.now) }
+{
+    let namelen = name_at(bytes, at)?;
+    let fixed = at + namelen;
+    let rdlen = usize::from(read_field::<u16>(bytes, fixed + 8));
+    if bytes.len() - fixed < FIXED + rdlen {
+        return None;
+    }
+    Some(Edit {
+        key: RecordKey {
+            name: part(bytes, at, namelen),
+            rrtype: read_field(bytes, fixed),
+            rrclass: read_field(bytes, fixed + 2),
+            rdata: part(bytes, fixed + FIXED, rdlen),
+        },
+        ttl: read_field(bytes, fixed + 4),
     })
 }
 
 fn ttl_may(ttl: u32) -> bool
     ensures { result ≡ ttl_may ttl }
 {
-    if ttl <= MAX_TTL {
-        return true;
-    }
-    ttl == REMOVE_TTL
+    ttl <= MAX_TTL || ttl == REMOVE_TTL
 }
 
 // A type or class that a record may have.
 fn plain(x: u16) -> bool
     ensures { result ≡ is_plain x }
 {
-    if x == 0 {
-        return false;
-    }
-    x != ANY
+    x != 0 && x != ANY
 }
 
-pub fn allowed(zone: &[u8], name: &[u8], rrtype: u16, rrclass: u16, ttl: u32, rdata: &[u8]) -> bool
-    ensures { result ≡ allowed_in zone.now (record_from name.now rrtype rrclass ttl rdata.now) }
+#[tactic(auto, using(crate::proofs::Readings::allowed_turned))]
+pub fn allowed(zone: &[u8], edit: Edit<'_>) -> bool
+    ensures { result ≡ allowed_in zone.now (record_of edit.entry) }
 {
-    if MAX_RDATA < rdata.len() {
-        return false;
-    }
-    if ttl_may(ttl) {
-        if plain(rrtype) {
-            if plain(rrclass) {
-                return wire::within(zone, name);
-            }
-        }
-    }
-    false
+    edit.key.rdata.len() <= MAX_RDATA
+        && ttl_may(edit.ttl)
+        && plain(edit.key.rrtype)
+        && plain(edit.key.rrclass)
+        && wire::within(zone, edit.key.name)
 }
 
 // An edit that was read and whose values are allowed; or why not.
-#[derive(Clone, Copy)]
-pub enum CheckedEdit {
-    Good(Edit),
-    Fault(crate::BatchFault),
-}
-
-pub fn checked_edit(zone: &[u8], bytes: &[u8], at: usize) -> CheckedEdit
-    ensures { result ≡ checked_at zone.now bytes.now at }
+pub fn checked_edit<'a>(zone: &[u8], bytes: &'a [u8], at: usize) -> Result<Edit<'a>, BatchFault>
+    ensures { ok_map record_of result ≡ checked_at zone.now bytes.now at }
 {
-    let EditReading::Read(e) = read_edit(bytes, at) else {
-        return CheckedEdit::Fault(crate::BatchFault::Unreadable);
-    };
-    let start = e.start;
-    let namelen = e.namelen;
-    let name = part(bytes, start, namelen);
-    let rdata = part(bytes, start + namelen + FIXED, e.rdlen);
-    if allowed(zone, name, e.rrtype, e.rrclass, e.ttl, rdata) {
-        return CheckedEdit::Good(e);
+    let edit = read_edit(bytes, at).ok_or(BatchFault::Unreadable)?;
+    if allowed(zone, edit) {
+        Ok(edit)
+    } else {
+        Err(BatchFault::BadValue)
     }
-    CheckedEdit::Fault(crate::BatchFault::BadValue)
 }

@@ -2,8 +2,8 @@
 ghost use Rattle.std.specs.Prelude.{min, ◌≡◌};
 ghost use Rattle.zone.specs.Record.{key_of, same_key};
 ghost use Rattle.zone.specs.Batch.{max_records};
-ghost use Rattle.zone.specs.Table.{block_at, rec_of, key_from, records_of, index_of, found_at};
-ghost use Rattle.zone.specs.Update.{keyed, Passes};
+ghost use Rattle.zone.specs.Table.{block_at, rec_of, key_in, records_in, index_of};
+ghost use Rattle.zone.specs.Update.{Passes};
 
 // The most records, and the most octets of an owner and of RDATA.
 pub const RECORDS: usize = 40;
@@ -57,125 +57,108 @@ pub struct RecordKey<'a> {
     pub rdata: &'a [u8],
 }
 
-// A block of the area; past the last one nothing.
-pub fn block(area: &Area, i: usize) -> &[u8]
-    ensures { result.now ≡ block_at area.now i }
-{
-    if RECORDS <= i {
-        return table::part(area, AREA, 0);
+// A block of a store's area holds one record. Any octets are a block.
+#[derive(Clone, Copy)]
+pub struct Block<'a> {
+    pub octets: &'a [u8],
+}
+
+impl<'a> Block<'a> {
+    #[tactic(auto, unfolding(crate::specs::Table::rec_of))]
+    pub fn owner(self) -> &'a [u8]
+        ensures { result.now ≡ (rec_of self.entry.octets.now).owner }
+    {
+        table::text(self.octets, OWNER_LENGTH, OWNER)
     }
-    table::part(area, i * BLOCK, BLOCK)
-}
 
-pub fn owner(block: &[u8]) -> &[u8]
-    ensures { result.now ≡ (rec_of block.now).owner }
-{
-    table::text(block, OWNER_LENGTH, OWNER)
-}
-
-pub fn rrtype(block: &[u8]) -> u16
-    ensures { result ≡ (rec_of block.now).rrtype }
-{
-    wire::field16(block, RRTYPE)
-}
-
-pub fn rrclass(block: &[u8]) -> u16
-    ensures { result ≡ (rec_of block.now).rrclass }
-{
-    wire::field16(block, RRCLASS)
-}
-
-pub fn ttl(block: &[u8]) -> u32
-    ensures { result ≡ (rec_of block.now).ttl }
-{
-    wire::field32(block, TTL)
-}
-
-pub fn rdata(block: &[u8]) -> &[u8]
-    ensures { result.now ≡ (rec_of block.now).rdata }
-{
-    table::text(block, RDATA_LENGTH, RDATA)
-}
-
-// Whether a block's record has a key. The numbers and the RDATA are looked at before the name.
-pub fn has_key(block: &[u8], name: &[u8], rrtype: u16, rrclass: u16, rdata: &[u8]) -> bool
-    ensures { result ≡ same_key (key_of (rec_of block.now)) (key_from name.now rrtype rrclass rdata.now) }
-{
-    if self::rrtype(block) != rrtype {
-        return false;
+    #[tactic(auto, unfolding(crate::specs::Table::rec_of))]
+    pub fn rrtype(self) -> u16
+        ensures { result ≡ (rec_of self.entry.octets.now).rrtype }
+    {
+        wire::read_field(self.octets, RRTYPE)
     }
-    if self::rrclass(block) != rrclass {
-        return false;
+
+    #[tactic(auto, unfolding(crate::specs::Table::rec_of))]
+    pub fn rrclass(self) -> u16
+        ensures { result ≡ (rec_of self.entry.octets.now).rrclass }
+    {
+        wire::read_field(self.octets, RRCLASS)
     }
-    if wire::same_octets(self::rdata(block), rdata) {
-        return wire::same_name(owner(block), name);
+
+    #[tactic(auto, unfolding(crate::specs::Table::rec_of))]
+    pub fn ttl(self) -> u32
+        ensures { result ≡ (rec_of self.entry.octets.now).ttl }
+    {
+        wire::read_field(self.octets, TTL)
     }
-    false
+
+    #[tactic(auto, unfolding(crate::specs::Table::rec_of))]
+    pub fn rdata(self) -> &'a [u8]
+        ensures { result.now ≡ (rec_of self.entry.octets.now).rdata }
+    {
+        table::text(self.octets, RDATA_LENGTH, RDATA)
+    }
+
+    pub fn key(self) -> RecordKey<'a>
+        ensures { key_in result ≡ key_of (rec_of self.entry.octets.now) }
+    {
+        RecordKey {
+            name: self.owner(),
+            rrtype: self.rrtype(),
+            rrclass: self.rrclass(),
+            rdata: self.rdata(),
+        }
+    }
+
+    // The numbers and the RDATA are looked at before the name.
+    #[tactic(auto, using(crate::proofs::Memory::same_key_turned))]
+    pub fn has_key(self, key: RecordKey<'_>) -> bool
+        ensures { result ≡ same_key (key_of (rec_of self.entry.octets.now)) (key_in key.entry) }
+    {
+        self.rrtype() == key.rrtype
+            && self.rrclass() == key.rrclass
+            && wire::same_octets(self.rdata(), key.rdata)
+            && wire::same_name(self.owner(), key.name)
+    }
+
+    // The same. Loops ask this: mostly a quick look at the RDATA says no.
+    #[tactic(auto, using(crate::proofs::Memory::key_apart))]
+    pub(crate) fn is_keyed(self, key: RecordKey<'_>) -> bool
+        ensures { result ≡ same_key (key_of (rec_of self.entry.octets.now)) (key_in key.entry) }
+    {
+        may_be_same(self.rdata(), key.rdata) && self.has_key(key)
+    }
 }
 
 // A quick look at octets: their number, the first and the last.
 fn may_be_same(a: &[u8], b: &[u8]) -> bool
     ensures { Passes a.now b.now result }
 {
-    if a.len() != b.len() {
-        return false;
+    a.len() == b.len() && a.first() == b.first() && a.last() == b.last()
+}
+
+impl<'a> Store<'a> {
+    // A count over 40 counts as 40.
+    pub fn len(self) -> usize
+        ensures { result ≡ min self.entry.count max_records }
+    {
+        self.count.min(RECORDS)
     }
-    if a.len() == 0 {
-        return true;
-    }
-    let last = a.len() - 1;
-    (a[0] == b[0]) & (a[last] == b[last])
-}
 
-// Whether the record in a block of the area has a key. Loops ask this: mostly a quick look at the RDATA says no.
-pub(crate) fn has_key_at(
-    area: &Area,
-    i: usize,
-    name: &[u8],
-    rrtype: u16,
-    rrclass: u16,
-    rdata: &[u8],
-) -> bool
-    ensures { result ≡ keyed area.now i (key_from name.now rrtype rrclass rdata.now) }
-{
-    let block = block(area, i);
-    if may_be_same(self::rdata(block), rdata) {
-        return has_key(block, name, rrtype, rrclass, rdata);
-    }
-    false
-}
-
-// Where a record stands in a store.
-#[derive(Clone, Copy)]
-pub enum Found {
-    At(usize),
-    Nothing,
-}
-
-// A count over 40 counts as 40.
-pub fn clamped(count: usize) -> usize
-    ensures { result ≡ min count max_records }
-{
-    if count < RECORDS { count } else { RECORDS }
-}
-
-pub fn find(
-    area: &Area,
-    count: usize,
-    name: &[u8],
-    rrtype: u16,
-    rrclass: u16,
-    rdata: &[u8],
-) -> Found
-    ensures { result ≡ found_at (index_of (key_from name.now rrtype rrclass rdata.now) (records_of count area.now)) }
-{
-    let n = clamped(count);
-    let mut i = 0;
-    while i < n {
-        if has_key_at(area, i, name, rrtype, rrclass, rdata) {
-            return Found::At(i);
+    // Past the last block of the area nothing.
+    pub fn block(self, i: usize) -> Block<'a>
+        ensures { result.octets.now ≡ block_at self.entry.area.now i }
+    {
+        let area = self.area;
+        Block {
+            octets: table::part(area, i.min(RECORDS) * BLOCK, BLOCK),
         }
-        i += 1;
     }
-    Found::Nothing
+
+    // Where the first record with a key stands.
+    pub fn find(self, key: RecordKey<'_>) -> Option<usize>
+        ensures { result ≡ index_of (key_in key.entry) (records_in self.entry) }
+    {
+        (0..self.len()).find(|&i| self.block(i).is_keyed(key))
+    }
 }

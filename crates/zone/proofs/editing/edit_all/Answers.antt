@@ -1,18 +1,22 @@
 -- `zone::editing::edit_all` meets its contract. Assumes nothing.
-use Rattle.zone.proofs.Steps.{midway-none, midway_end, midway-over, midway-stop, midway-turn}
+use mathlib.Core.Path.{sym, ap, ◌∙◌}
+use native.Mathlib.Omega.{arith}
+use lib.ListN.{length-drop}
+use Rattle.zone.specs.Edit.{record_of, ok_map}
+use Rattle.zone.proofs.Steps.{checked_parts}
 use Rattle.zone.proofs.editing.edit_all.Goals as goal
 
-pub loop-at-init : goal.loop-at-init
-loop-at-init c = search midway-none
+pub apply-requires : goal.apply-requires
+apply-requires c =
+    let p = checked_parts _ _ _ (sym (ap (ok_map record_of) c.in_ok-edit.was) ∙ c.checked_edit.ensures) in
+    (c.loop-turn.invariant.few, (p.owner, p.rdata))
 
-pub returns-then-left-eq0 : goal.returns-then-left-eq0
-returns-then-left-eq0 c = search midway-over
+pub size-at-requires : goal.size-at-requires
+size-at-requires c =
+    let p = checked_parts _ _ _ (sym (ap (ok_map record_of) c.in_ok-edit.was) ∙ c.checked_edit.ensures) in
+    omega (arith, p.within, length-drop c.loop-turn.at c.args.bytes.now)
 
-pub returns-in-Stop : goal.returns-in-Stop
-returns-in-Stop c = midway-stop _ _ _ _ _ _ _ c.loop-at.invariant _ _ c.step.ensures c.if-left-eq0.false _ c.in-Stop.is
-
-pub loop-at-preserved : goal.loop-at-preserved
-loop-at-preserved c = midway-turn _ _ _ _ _ _ _ c.loop-at.invariant _ _ c.step.ensures c.if-left-eq0.false _ _ c.in-Next.is
-
-pub returns : goal.returns
-returns c = search midway_end
+pub overflow_add-at : goal.overflow_add-at
+overflow_add-at c =
+    let p = checked_parts _ _ _ (sym (ap (ok_map record_of) c.in_ok-edit.was) ∙ c.checked_edit.ensures) in
+    omega (arith, p.within, length-drop c.loop-turn.at c.args.bytes.now)
