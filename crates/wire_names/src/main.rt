@@ -12,17 +12,18 @@ use input::{held_line, idle, next_line};
 use question::ask;
 use std::io;
 
-// A proved loop has to end, and nothing says that the input does: the turns are counted down.
+// A proved loop has to end, and nothing says that the input does: the turns are counted.
 fn main(rt: HostRuntime) -> io::Result<()> {
     let mut stdin = rt.stdin();
     let mut input = [0u8; 65536];
     let mut line = [0u8; 32769];
-    let mut p = next_line(idle(true), &mut input, &mut line, &mut stdin)?;
-    let mut turns = u64::MAX;
-    while turns > 0 && p.ready {
-        turns -= 1;
+    let mut p = idle(true);
+    for _ in 0..u64::MAX {
+        let Some(next) = next_line(p, &mut input, &mut line, &mut stdin)? else {
+            break;
+        };
+        p = next;
         ask(&rt, held_line(p, &line))?;
-        p = next_line(p, &mut input, &mut line, &mut stdin)?;
     }
     Ok(())
 }

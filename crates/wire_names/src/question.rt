@@ -1,8 +1,8 @@
 // The three questions and their answers.
-use script::{Decoded, Number, read_bytes, read_number};
+use dso::is_name;
+use script::{first, read_bytes, read_number};
 use std::io;
 use table::part;
-use wire::same_octets;
 
 // Room for a name and more: longer fields are unreadable.
 type Octets = [u8; 300];
@@ -11,92 +11,80 @@ fn unreadable(rt: &impl Print) -> io::Result<()> {
     rt.write_all(b"?\n")
 }
 
-fn is_whole(s: &[u8]) -> bool {
-    let wire::NameReading::Name(n) = wire::name_at(s, 0) else {
-        return false;
+fn read(rt: &impl Print, octets: &[u8], at: usize) -> io::Result<()> {
+    rt.write_all(b"read\t")?;
+    let Some(n) = wire::name_at(octets, at) else {
+        return rt.write_all(b"-\n");
     };
-    n == s.len()
+    println!(rt; "{n}")
 }
 
-fn write_word(rt: &impl Print, both: bool, yes: bool) -> io::Result<()> {
-    if !both {
+fn ask_read(rt: &impl Print, place: &[u8], hex: &[u8]) -> io::Result<()> {
+    let mut space: Octets = [0u8; 300];
+    let Some(n) = read_bytes(hex, &mut space) else {
+        return unreadable(rt);
+    };
+    let Some(at) = read_number(place) else {
+        return unreadable(rt);
+    };
+    read(rt, part(&space, 0, n), at as usize)
+}
+
+// Whether something holds of two names; neither yes nor no where one is no whole name.
+fn compare<F: Fn(&[u8], &[u8]) -> bool>(
+    rt: &impl Print,
+    left: &[u8],
+    right: &[u8],
+    holds: F,
+) -> io::Result<()>
+    requires { F.IsAlwaysCallable holds }
+{
+    if !is_name(left) || !is_name(right) {
         rt.write_all(b"-\n")
-    } else if yes {
+    } else if holds(left, right) {
         rt.write_all(b"yes\n")
     } else {
         rt.write_all(b"no\n")
     }
 }
 
-fn read(rt: &impl Print, octets: &[u8], at: usize) -> io::Result<()> {
-    rt.write_all(b"read\t")?;
-    let wire::NameReading::Name(n) = wire::name_at(octets, at) else {
-        return rt.write_all(b"-\n");
-    };
-    println!(rt; "{n}")
-}
-
-fn same(rt: &impl Print, a: &[u8], b: &[u8]) -> io::Result<()> {
-    rt.write_all(b"same\t")?;
-    let both = is_whole(a) && is_whole(b);
-    write_word(rt, both, wire::same_name(a, b))
-}
-
-fn within(rt: &impl Print, zone: &[u8], name: &[u8]) -> io::Result<()> {
-    rt.write_all(b"within\t")?;
-    let both = is_whole(zone) && is_whole(name);
-    write_word(rt, both, wire::within(zone, name))
-}
-
-fn ask_read(rt: &impl Print, place: &[u8], hex: &[u8]) -> io::Result<()> {
-    let mut space: Octets = [0u8; 300];
-    let Decoded::Bytes(n) = read_bytes(hex, &mut space) else {
-        return unreadable(rt);
-    };
-    let Number::Value(at) = read_number(place) else {
-        return unreadable(rt);
-    };
-    read(rt, part(&space, 0, n), at as usize)
-}
-
-fn ask_two(rt: &impl Print, about: u8, first: &[u8], second: &[u8]) -> io::Result<()> {
+fn ask_two<F: Fn(&[u8], &[u8]) -> bool>(
+    rt: &impl Print,
+    label: &[u8],
+    first: &[u8],
+    second: &[u8],
+    holds: F,
+) -> io::Result<()>
+    requires { F.IsAlwaysCallable holds }
+{
     let mut left: Octets = [0u8; 300];
-    let Decoded::Bytes(n) = read_bytes(first, &mut left) else {
+    let Some(n) = read_bytes(first, &mut left) else {
         return unreadable(rt);
     };
     let mut right: Octets = [0u8; 300];
-    let Decoded::Bytes(m) = read_bytes(second, &mut right) else {
+    let Some(m) = read_bytes(second, &mut right) else {
         return unreadable(rt);
     };
-    if about == b's' {
-        same(rt, part(&left, 0, n), part(&right, 0, m))
-    } else {
-        within(rt, part(&left, 0, n), part(&right, 0, m))
-    }
+    rt.write_all(label)?;
+    compare(rt, part(&left, 0, n), part(&right, 0, m), holds)
 }
 
 pub fn ask(rt: &impl Print, line: &[u8]) -> io::Result<()> {
-    let v = script::first(line, b'\t');
-    if line.len() <= v {
+    let Some(v) = first(line, b'\t') else {
         return unreadable(rt);
-    }
-    let rest = part(line, v + 1, line.len());
-    let f = script::first(rest, b'\t');
-    if rest.len() <= f {
+    };
+    let rest = &line[v + 1..];
+    let Some(f) = first(rest, b'\t') else {
         return unreadable(rt);
-    }
-    let second = part(rest, f + 1, rest.len());
-    put(rt, part(line, 0, v), part(rest, 0, f), second)
+    };
+    put(rt, &line[..v], &rest[..f], &rest[f + 1..])
 }
 
 fn put(rt: &impl Print, verb: &[u8], first: &[u8], second: &[u8]) -> io::Result<()> {
-    if same_octets(verb, b"read") {
-        ask_read(rt, first, second)
-    } else if same_octets(verb, b"same") {
-        ask_two(rt, b's', first, second)
-    } else if same_octets(verb, b"within") {
-        ask_two(rt, b'w', first, second)
-    } else {
-        unreadable(rt)
+    match verb {
+        b"read" => ask_read(rt, first, second),
+        b"same" => ask_two(rt, b"same\t", first, second, |a, b| wire::same_name(a, b)),
+        b"within" => ask_two(rt, b"within\t", first, second, |a, b| wire::within(a, b)),
+        _ => unreadable(rt),
     }
 }
