@@ -1,14 +1,14 @@
 -- Laws of the table's changes: a block written and read back, one subscription more, those of an ID gone.
-use Prim.Native.Nat.{ℕ, suc, ◌+◌, ◌-◌, ◌*◌, min, ◌≤◌, ◌<◌, ◌^◌}
+use Prim.Native.Nat.{ℕ, zero, suc, ◌+◌, ◌-◌, ◌*◌, min, ◌≤◌, ◌<◌, ◌^◌}
 use mathlib.Core.Path.{◌≡◌, refl, sym, ap, ap₂, ◌∙◌}
 use mathlib.Core.Bool.{Bool, true, false, cond, not, ◌||◌, or-true}
-use mathlib.Core.List.{List, [], ◌∷◌, ◌++◌, map, append_assoc, append-nil, map-append}
+use mathlib.Core.List.{List, [], ◌∷◌, ◌++◌, map, append_assoc, map-append}
 use native.Mathlib.Nat.{add-zero}
 use native.Mathlib.Numerals.{add-one}
 use native.Mathlib.Omega.{arith}
-use lib.ListN.{length, take, drop, get_or, set, length-append, length-drop, drop_of_length-le}
-use lib.Seq.{sets, take_at, drop_at, drop-drop, drop-cons, take-suc, take_all, length-take-le}
-use lib.Dec.{ltb, eqb}
+use lib.ListN.{length, take, drop, get_or, set, length-append, length-drop}
+use lib.Seq.{sets, take_at, drop_at, drop-drop, length-take-le}
+use lib.Dec.{ltb}
 use borrow.Author.Tests.{lt-ltb, le-ltb, le-leb, lt-leb}
 use Rattle.wire.specs.Field.{field, octets}
 use Rattle.wire.specs.Name.{max_name}
@@ -16,12 +16,15 @@ use Rattle.wire.specs.Part.{part}
 use Rattle.wire.proofs.Fields.{length-octets, field-octets, field-one}
 use Rattle.wire.proofs.Writes.{sets-append, sets-front, take-sets, drop-sets-add}
 use Rattle.table.specs.Blocks.{blocks, cut, slid, text_at}
-use Rattle.table.proofs.Blocks.{blocks-suc, blocks-past, blocks-slid, take-cut, drop-cut, map-cut}
-use Rattle.zone.specs.Lists.{only_if}
+use Rattle.table.proofs.Blocks.{blocks-suc, blocks-past, blocks-slid, map-cut}
+use Rattle.zone.specs.Lists.{keep, only_if}
 use Rattle.zone.specs.Match.{Subscription}
-use Rattle.session.specs.Subscriptions.{max_subscriptions, is_full, without}
+use Rattle.session.specs.Subscriptions.{max_subscriptions, holds_id, uses_id, is_full, without}
 use Rattle.session.specs.Table.{block_size, area_size, sub_of, sub_octets, subscriptions_of, subscription, appended}
-use Rattle.session.proofs.Table.{length-subscriptions_of, subscriptions_of-at, subscriptions_of-few, is_full-count}
+use Rattle.session.proofs.Table.{length_subscriptions_of, subscriptions_of-few, is_some_position, is_full-count}
+use Rattle.session.proofs.Held.{without-unused}
+use Rattle.std.specs.Prelude.{Option, Some, None, is_some, position}
+use Rattle.std.proofs.lemmas.List.Quantifiers.{position-Some}
 
 -- ---- writes in a row
 
@@ -159,62 +162,45 @@ pub gap-closed : (n : ℕ) (a b : List ℕ) (i : ℕ) → i < n → n ≤ max_su
     → blocks block_size (n - 1) b ≡ cut i (blocks block_size n a)
 gap-closed n a b i h k l e = ap (blocks block_size (n - 1)) e ∙ blocks-slid block_size n a i h (omega arith)
 
--- The loop: the first i of n keep their place, and of those behind them the ones of the ID are still to go.
-pub record Swept (id : ℕ) (subs : List Subscription) (n : ℕ) (a : List ℕ) (i : ℕ) : Type 0 where
-  pub many : n ≤ max_subscriptions
-  pub rest : without id subs ≡ take i (subscriptions_of n a) ++ without id (drop i (subscriptions_of n a))
+-- A member that isn't kept goes.
+keep-cut : (p : Subscription → Bool) (i : ℕ) (subs : List Subscription) (d : Subscription) → p (get_or subs i d) ≡ false
+    → keep p (cut i subs) ≡ keep p subs
+unfolding cut
+keep-cut p i [] d h = refl
+keep-cut p zero (s ∷ subs) d h = sym (ap (λ (b : Bool). only_if b s (keep p subs)) h)
+keep-cut p (suc i) (s ∷ subs) d h = ap (only_if (p s) s) (keep-cut p i subs d h)
 
-pub swept_none : (id count n : ℕ) (a : List ℕ) → n ≡ min count max_subscriptions → Swept id (subscriptions_of count a) n a 0
+-- The loop: with those of the ID that are still there gone, too, what is to be left is left.
+pub record Swept (id : ℕ) (subs : List Subscription) (n : ℕ) (a : List ℕ) : Type 0 where
+  pub many : n ≤ max_subscriptions
+  pub rest : without id subs ≡ without id (subscriptions_of n a)
+
+pub swept_none : (id count n : ℕ) (a : List ℕ) → n ≡ min count max_subscriptions → Swept id (subscriptions_of count a) n a
 unfolding subscriptions_of
 swept_none id count n a e =
     let m : min count max_subscriptions ≡ min n max_subscriptions = omega arith in
     record { many = omega arith; rest = ap (λ (k : ℕ). without id (map sub_of (blocks block_size k a))) m }
 
-module _ (id : ℕ) (subs : List Subscription) (n : ℕ) (a : List ℕ) (i : ℕ) (d : Swept id subs n a i) where
+module _ (id : ℕ) (subs : List Subscription) (n : ℕ) (a : List ℕ) (d : Swept id subs n a) (o : Option ℕ) (e : o ≡ position (holds_id id) (subscriptions_of n a)) where
   abbrev all : List Subscription
   all = subscriptions_of n a
 
-  abbrev behind : List Subscription
-  behind = without id (drop (suc i) all)
+  pub swept_all : o ≡ None → all ≡ without id subs
+  unfolding uses_id
+  swept_all f = sym (d.rest ∙ without-unused id all (sym (is_some_position (holds_id id) all) ∙ ap is_some (sym e ∙ f)))
 
-  pub swept_all : n ≤ i → all ≡ without id subs
-  unfolding without
-  swept_all h =
-      let l : length all ≤ i = omega (arith, length-subscriptions_of n a) in
-      sym (d.rest ∙ ap₂ (λ (x y : List Subscription). x ++ without id y) (take_all i all l) (drop_of_length-le all {i = i} l) ∙ append-nil all)
+  module _ (i : ℕ) (f : o ≡ Some i) where
+    pub place-inside : i < n
+    place-inside = let h = position-Some (holds_id id) all i (sub_of []) (sym e ∙ f) in omega (arith, h.0, length_subscriptions_of n a)
 
-  module _ (h : i < n) (o : List ℕ) (p : o ≡ part a (i * block_size) block_size) (r : Bool) (f : r ≡ eqb (sub_of o).id id) where
-    abbrev here : Subscription
-    here = get_or all i (sub_of [])
-
-    inside : i < length all
-    inside = omega (arith, d.many, length-subscriptions_of n a)
-
-    -- Whether the next one keeps its place.
-    next : without id (drop i all) ≡ only_if (not r) here behind
+    pub swept-gone : (m : ℕ) (b : List ℕ) → m ≡ n - 1 → blocks block_size (n - 1) b ≡ cut i (blocks block_size n a) → Swept id subs m b
     unfolding without
-    next =
-        let e : here ≡ sub_of o = subscriptions_of-at n a i (omega (arith, d.many)) ∙ ap sub_of (sym p) in
-        ap (without id) (drop-cons all i (sub_of []) inside)
-        ∙ ap (λ (b : Bool). only_if (not b) here behind) (ap (λ (s : Subscription). eqb s.id id) e ∙ sym f)
-
-    pub swept_kept : r ≡ false → Swept id subs n a (i + 1)
-    swept_kept g = record {
-      many = d.many;
-      rest = d.rest ∙ ap (λ (l : List Subscription). take i all ++ l) (next ∙ ap (λ (b : Bool). only_if (not b) here behind) g)
-          ∙ sym (append_assoc (take i all) (here ∷ []) behind)
-          ∙ ap (λ (l : List Subscription). l ++ behind) (sym (take-suc all i (sub_of []) inside))
-          ∙ ap (λ (k : ℕ). take k all ++ without id (drop k all)) (sym (add-one i));
-    }
-
-    pub swept-gone : r ≡ true → (m : ℕ) (b : List ℕ) → m ≡ n - 1 → blocks block_size (n - 1) b ≡ cut i (blocks block_size n a)
-        → Swept id subs m b i
-    swept-gone g m b e k =
+    swept-gone m b g k =
+        let h = position-Some (holds_id id) all i (sub_of []) (sym e ∙ f) in
         let left : subscriptions_of m b ≡ cut i all =
-        subscriptions_of-few m b (omega (arith, d.many)) ∙ ap (λ (j : ℕ). map sub_of (blocks block_size j b)) e ∙ ap (map sub_of) k
+        subscriptions_of-few m b (omega (arith, d.many)) ∙ ap (λ (j : ℕ). map sub_of (blocks block_size j b)) g ∙ ap (map sub_of) k
         ∙ map-cut sub_of i (blocks block_size n a) ∙ ap (cut i) (sym (subscriptions_of-few n a d.many)) in
         record {
           many = omega (arith, d.many);
-          rest = d.rest ∙ ap (λ (l : List Subscription). take i all ++ l) (next ∙ ap (λ (t : Bool). only_if (not t) here behind) g)
-              ∙ ap₂ (λ (x y : List Subscription). x ++ without id y) (sym (ap (take i) left ∙ take-cut i all)) (sym (ap (drop i) left ∙ drop-cut i all));
+          rest = d.rest ∙ sym (ap (without id) left ∙ keep-cut (λ (s : Subscription). not (holds_id id s)) i all (sub_of []) (ap not h.1));
         }

@@ -8,9 +8,12 @@ use Rattle.zone.specs.Match.{Subscription}
 abbrev pub max_subscriptions : ℕ
 max_subscriptions = 16
 
+abbrev pub holds_id : ℕ → Subscription → Bool
+holds_id id s = eqb s.id id
+
 -- Whether a message ID is held by one of the subscriptions.
 unfoldable pub uses_id : ℕ → List Subscription → Bool
-uses_id id subs = any_of (λ (s : Subscription). eqb s.id id) subs
+uses_id id subs = any_of (holds_id id) subs
 
 abbrev pub same_question : Subscription → Subscription → Bool
 same_question a b = same_name a.owner b.owner && eqb a.rrtype b.rrtype && eqb a.rrclass b.rrclass
@@ -24,4 +27,4 @@ is_full subs = leb max_subscriptions (length subs)
 
 -- Without the one of an ID, if there is one.
 unfoldable pub without : ℕ → List Subscription → List Subscription
-without id subs = keep (λ (s : Subscription). not (eqb s.id id)) subs
+without id subs = keep (λ (s : Subscription). not (holds_id id s)) subs

@@ -1,5 +1,5 @@
 -- A session's subscriptions in lent memory: how many there are, and blocks of one size, one for each.
-use Rattle.std.specs.Prelude.{ℕ, ◌*◌, min, cond, ◌||◌, List, [], ◌∷◌, ◌++◌, map, length, drop, ltb}
+use Rattle.std.specs.Prelude.{ℕ, ◌*◌, min, Bool, ◌≡◌, cond, ◌||◌, List, [], ◌∷◌, ◌++◌, map, length, drop, ltb}
 use Rattle.wire.specs.Field.{field, octets}
 use Rattle.wire.specs.Name.{max_name}
 use Rattle.table.specs.Blocks.{blocks, text_at}
@@ -7,6 +7,7 @@ use Rattle.zone.specs.Record.{Record}
 use Rattle.zone.specs.Match.{Subscription}
 use Rattle.session.specs.Subscriptions.{max_subscriptions, is_full}
 use Rattle.session.specs.declared.subscriptions.Subscriptions.{Subscriptions}
+use Rattle.session.specs.declared.subscriptions.Block.{Block}
 use Rattle.dso.specs.declared.matching.Question.{Question}
 
 -- A block: the message ID, the type and the class, two octets each; the length of the name; the name.
@@ -36,6 +37,10 @@ subscriptions_of count area = map sub_of (blocks block_size (min count max_subsc
 -- The subscriptions that the code passes on.
 abbrev pub subscriptions_in : Subscriptions → List Subscription
 subscriptions_in s = subscriptions_of s.count s.area.now
+
+-- What a closure answers, by what it is known to answer for a block, is a test of the subscription that stands there.
+abbrev pub Tests : (Block → Bool → Type 0) → (Subscription → Bool) → Type 0
+Tests answers p = (b : Block) (r : Bool) → answers b r → r ≡ p (sub_of b.octets.now)
 
 -- One more at the end; nothing changes where there are as many as there may be, or where the name is too long to be one.
 unfoldable pub appended : Subscription → List Subscription → List Subscription

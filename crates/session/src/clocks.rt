@@ -1,6 +1,8 @@
 // The two clocks of a session (RFC 8490, 6.2): since when each runs, and the timeouts that hold.
-ghost use Rattle.std.specs.Prelude.{◌≡◌, ◌-◌, ◌*◌, max};
-ghost use Rattle.session.specs.Clocks.{started as started_at, received as received_at, granted as granted_to, expired as expired_at, least_inactivity};
+ghost use Rattle.std.specs.Prelude.{◌≡◌};
+ghost use Rattle.session.specs.Clocks.{started as started_at, received as received_at, granted as granted_to, expired as expired_at};
+
+use dso::Timeouts;
 
 // RFC 8490, 6.2: the timeouts until others are granted.
 const FIRST_INACTIVITY: u32 = 15000;
@@ -23,90 +25,53 @@ pub struct Clocks {
     pub keepalive: u32,
 }
 
-// Both clocks, started when the session is opened.
-pub fn started(t: u64) -> Clocks
-    ensures { result ≡ started_at t }
-{
-    Clocks {
-        active: t,
-        alive: t,
-        inactivity: FIRST_INACTIVITY,
-        keepalive: FIRST_KEEPALIVE,
+impl Clocks {
+    // Both clocks, started when the session is opened.
+    #[tactic(auto, unfolding(crate::specs::Clocks::started))]
+    pub fn started(t: u64) -> Self
+        ensures { result ≡ started_at t }
+    {
+        Clocks {
+            active: t,
+            alive: t,
+            inactivity: FIRST_INACTIVITY,
+            keepalive: FIRST_KEEPALIVE,
+        }
     }
-}
 
-// After a received message that does not abort; `keepalive` says whether it is a Keepalive, which leaves the inactivity clock.
-fn received(c: Clocks, keepalive: bool, t: u64) -> Clocks
-    ensures { result ≡ received_at keepalive t c }
-{
-    Clocks {
-        active: if keepalive { c.active } else { t },
-        alive: t,
-        inactivity: c.inactivity,
-        keepalive: c.keepalive,
+    // After a received message that does not abort, where they lie; `keepalive` says whether it is a Keepalive, which leaves the
+    // inactivity clock.
+    #[tactic(auto, unfolding(crate::specs::Clocks::received))]
+    pub fn restart(&mut self, keepalive: bool, t: u64)
+        ensures { self.new ≡ received_at keepalive t self.old }
+    {
+        *self = Clocks {
+            active: if keepalive { self.active } else { t },
+            alive: t,
+            ..*self
+        };
     }
-}
 
-// Restarts the clocks where they lie: both, or after a Keepalive the keepalive clock alone.
-pub fn restart(clocks: &mut Clocks, keepalive: bool, t: u64)
-    ensures { clocks.new ≡ received_at keepalive t clocks.old }
-{
-    *clocks = received(*clocks, keepalive, t);
-}
-
-// The same for whoever holds the clocks by value: they are lent from a local.
-pub fn restarted(c: Clocks, keepalive: bool, t: u64) -> Clocks
-    ensures { result ≡ received_at keepalive t c }
-{
-    let mut clocks = c;
-    restart(&mut clocks, keepalive, t);
-    clocks
-}
-
-// With the timeouts that a Keepalive reply carries.
-pub fn granted(c: Clocks, inactivity: u32, keepalive: u32) -> Clocks
-    ensures { result ≡ granted_to inactivity keepalive c }
-{
-    Clocks {
-        active: c.active,
-        alive: c.alive,
-        inactivity,
-        keepalive,
+    // With the timeouts that a Keepalive reply carries.
+    #[tactic(auto, unfolding(crate::specs::Clocks::granted))]
+    pub fn granted(self, timeouts: Timeouts) -> Self
+        ensures { result ≡ granted_to timeouts.inactivity timeouts.keepalive self }
+    {
+        Clocks {
+            inactivity: timeouts.inactivity,
+            keepalive: timeouts.keepalive,
+            ..self
+        }
     }
-}
 
-// None has passed where the start is later than the time.
-fn elapsed(since: u64, t: u64) -> u64
-    ensures { result ≡ t - since }
-{
-    if since <= t { t - since } else { 0 }
-}
-
-fn twice(timeout: u32) -> u64
-    ensures { result ≡ 2 * timeout }
-{
-    2 * (timeout as u64)
-}
-
-fn inactivity_limit(timeout: u32) -> u64
-    ensures { result ≡ max least_inactivity (2 * timeout) }
-{
-    let limit = twice(timeout);
-    if limit <= LEAST_INACTIVITY {
-        return LEAST_INACTIVITY;
+    // Whether a tick at `t` aborts the session. No time has passed where a clock's start is later.
+    #[tactic(auto, unfolding(crate::specs::Clocks::expired))]
+    pub fn expired(self, subscribed: bool, t: u64) -> bool
+        ensures { result ≡ expired_at subscribed t self }
+    {
+        let silent = t.saturating_sub(self.alive);
+        let idle = t.saturating_sub(self.active);
+        let limit = LEAST_INACTIVITY.max(2 * u64::from(self.inactivity));
+        2 * u64::from(self.keepalive) <= silent || !subscribed && limit <= idle
     }
-    limit
-}
-
-// Whether a tick at `t` aborts the session.
-pub fn expired(c: Clocks, subscribed: bool, t: u64) -> bool
-    ensures { result ≡ expired_at subscribed t c }
-{
-    if twice(c.keepalive) <= elapsed(c.alive, t) {
-        return true;
-    }
-    if subscribed {
-        return false;
-    }
-    inactivity_limit(c.inactivity) <= elapsed(c.active, t)
 }

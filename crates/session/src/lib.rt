@@ -4,7 +4,5 @@
 mod clocks;
 mod subscriptions;
 
-pub use clocks::{Clocks, expired, granted, restart, restarted, started};
-pub use subscriptions::{
-    AREA, Area, SUBSCRIPTIONS, Subscriptions, append, asks_already, is_full, remove, uses_id, wanted,
-};
+pub use clocks::Clocks;
+pub use subscriptions::{AREA, Area, SUBSCRIPTIONS, Subscriptions, append, remove};

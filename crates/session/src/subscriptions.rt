@@ -1,13 +1,16 @@
 // A session's subscriptions in lent memory: blocks of one size, `count` of which hold one each, in the order in which they
 // came. A block: message ID, type and class, 16 bits each; the length of the name, one octet; the name.
-ghost use Rattle.std.specs.Prelude.{ℕ, ◌+◌, ◌-◌, ◌≤◌, ◌<◌, min, ◌≡◌, List, ◌∷◌, ◌++◌, length, eqb};
+ghost use Rattle.std.specs.Prelude.{◌+◌, ◌-◌, ◌≤◌, ◌<◌, ◌≡◌, Bool, ◌∷◌, ◌++◌, length, position, eqb};
 ghost use Rattle.std.proofs.lemmas.List.Edits.{sets};
 ghost use Rattle.wire.specs.Field.{octets};
 ghost use Rattle.wire.specs.Name.{max_name};
 ghost use Rattle.table.specs.Blocks.{blocks, cut};
-ghost use Rattle.zone.specs.Match.{matches as matching, wanted as wanted_by};
-ghost use Rattle.session.specs.Subscriptions.{max_subscriptions, uses_id, same_question, asks_already, is_full, without};
-ghost use Rattle.session.specs.Table.{block_size, sub_of, sub_octets, subscriptions_of, subscription, record_asked, appended};
+ghost use Rattle.zone.specs.Lists.{any_of};
+ghost use Rattle.zone.specs.Match.{Subscription, matches as matching, wanted as wanted_by};
+ghost use Rattle.session.specs.Subscriptions.{max_subscriptions, holds_id, uses_id, same_question, asks_already, is_full, without};
+ghost use Rattle.session.specs.Table.{block_size, sub_of, sub_octets, subscriptions_of, subscriptions_in, subscription_for, record_for, appended, Tests};
+
+use dso::Question;
 
 // 01: "Subscriptions: 16 a session". The limit is stated here and in the definitions.
 pub const SUBSCRIPTIONS: usize = 16;
@@ -41,119 +44,123 @@ const OWNER: usize = 7;
 
 // ---- one block
 
-fn has_id(block: &[u8], id: u16) -> bool
-    ensures { result ≡ eqb (sub_of block.now).id id }
-{
-    wire::field16(block, ID) == id
+// The octets of one subscription.
+#[derive(Clone, Copy)]
+struct Block<'a> {
+    octets: &'a [u8],
 }
 
-fn owner(block: &[u8]) -> &[u8]
-    ensures { result.now ≡ (sub_of block.now).owner }
-{
-    table::text(block, OWNER_LENGTH, OWNER)
-}
+impl<'a> Block<'a> {
+    #[tactic(auto, unfolding(crate::specs::Table::sub_of))]
+    fn has_id(self, id: u16) -> bool
+        ensures { result ≡ eqb (sub_of self.entry.octets.now).id id }
+    {
+        wire::field16(self.octets, ID) == id
+    }
 
-// Type and class first: they are cheap to compare, and tell most apart.
-fn asks_same(block: &[u8], name: &[u8], rrtype: u16, rrclass: u16) -> bool
-    ensures { result ≡ same_question (subscription 0 name.now rrtype rrclass) (sub_of block.now) }
-{
-    if wire::field16(block, RRTYPE) != rrtype {
-        return false;
+    #[tactic(auto, unfolding(crate::specs::Table::sub_of))]
+    fn owner(self) -> &'a [u8]
+        ensures { result.now ≡ (sub_of self.entry.octets.now).owner }
+    {
+        table::text(self.octets, OWNER_LENGTH, OWNER)
     }
-    if wire::field16(block, RRCLASS) != rrclass {
-        return false;
-    }
-    wire::same_name(name, owner(block))
-}
 
-fn matches(block: &[u8], name: &[u8], rrtype: u16, rrclass: u16) -> bool
-    ensures { result ≡ matching (sub_of block.now) (record_asked name.now rrtype rrclass) }
-{
-    if dso::asks_for(
-        wire::field16(block, RRTYPE),
-        wire::field16(block, RRCLASS),
-        rrtype,
-        rrclass,
-    ) {
-        return wire::same_name(owner(block), name);
+    // Type and class first: they are cheap to compare, and tell most apart.
+    #[tactic(auto, unfolding(crate::specs::Table::sub_of))]
+    fn asks_same(self, question: Question<'_>) -> bool
+        ensures { result ≡ same_question (subscription_for 0 question.entry) (sub_of self.entry.octets.now) }
+    {
+        wire::field16(self.octets, RRTYPE) == question.rrtype
+            && wire::field16(self.octets, RRCLASS) == question.rrclass
+            && wire::same_name(question.name, self.owner())
     }
-    false
+
+    #[tactic(auto, using(crate::proofs::Table::matches_split), unfolding(crate::specs::Table::sub_of))]
+    fn matches(self, of: Question<'_>) -> bool
+        ensures { result ≡ matching (sub_of self.entry.octets.now) (record_for of.entry) }
+    {
+        let rrtype = wire::field16(self.octets, RRTYPE);
+        let rrclass = wire::field16(self.octets, RRCLASS);
+        dso::asks_for(rrtype, rrclass, of.rrtype, of.rrclass)
+            && wire::same_name(self.owner(), of.name)
+    }
 }
 
 // ---- all of them
 
-// A count over the limit counts as the limit.
-fn live(count: usize) -> usize
-    ensures { result ≡ min count max_subscriptions }
-{
-    if count < SUBSCRIPTIONS {
-        count
-    } else {
-        SUBSCRIPTIONS
+impl<'a> Subscriptions<'a> {
+    // A count over the limit counts as the limit.
+    #[tactic(auto, using(crate::proofs::Table::length_subscriptions_of))]
+    pub fn len(self) -> usize
+        ensures { result ≡ length (subscriptions_in self.entry) }
+    {
+        self.count.min(SUBSCRIPTIONS)
     }
-}
 
-// Whether there are as many as there may be.
-pub fn is_full(count: usize) -> bool
-    ensures { (area : List ℕ) → result ≡ is_full (subscriptions_of count area) }
-{
-    SUBSCRIPTIONS <= count
-}
+    // Whether there are as many as there may be.
+    #[tactic(auto, using(crate::proofs::Table::length_subscriptions_of), unfolding(crate::specs::Subscriptions::is_full))]
+    pub fn is_full(self) -> bool
+        ensures { result ≡ is_full (subscriptions_in self.entry) }
+    {
+        SUBSCRIPTIONS <= self.count
+    }
 
-// Whether a message ID is held by one of them.
-pub fn uses_id(area: &Area, count: usize, id: u16) -> bool
-    ensures { result ≡ uses_id id (subscriptions_of count area.now) }
-{
-    let n = live(count);
-    let mut i = 0;
-    while i < n {
-        if has_id(table::part(area, i * BLOCK, BLOCK), id) {
-            return true;
+    // Where the first stands that passes a test.
+    fn position<F: Fn(Block<'a>) -> bool>(self, test: F) -> Option<usize>
+        requires { F.IsAlwaysCallable test }
+        ensures { (p : Subscription → Bool) → Tests (F.post test) p → result ≡ position p (subscriptions_in self.entry) }
+    {
+        let area = self.area;
+        for i in 0..self.len() {
+            let octets = table::part(area, i * BLOCK, BLOCK);
+            if test(Block { octets }) {
+                return Some(i);
+            }
         }
-        i += 1;
+        None
     }
-    false
-}
 
-// Whether one of them has the same name, type and class, whatever its ID.
-pub fn asks_already(area: &Area, count: usize, name: &[u8], rrtype: u16, rrclass: u16) -> bool
-    ensures { result ≡ asks_already (subscription 0 name.now rrtype rrclass) (subscriptions_of count area.now) }
-{
-    let n = live(count);
-    let mut i = 0;
-    while i < n {
-        if asks_same(table::part(area, i * BLOCK, BLOCK), name, rrtype, rrclass) {
-            return true;
-        }
-        i += 1;
+    // Whether one of them passes a test.
+    fn any<F: Fn(Block<'a>) -> bool>(self, test: F) -> bool
+        requires { F.IsAlwaysCallable test }
+        ensures { (p : Subscription → Bool) → Tests (F.post test) p → result ≡ any_of p (subscriptions_in self.entry) }
+    {
+        self.position(test).is_some()
     }
-    false
-}
 
-// Whether one of them matches a record of this name, type and class.
-pub fn wanted(area: &Area, count: usize, name: &[u8], rrtype: u16, rrclass: u16) -> bool
-    ensures { result ≡ wanted_by (subscriptions_of count area.now) (record_asked name.now rrtype rrclass) }
-{
-    let n = live(count);
-    let mut i = 0;
-    while i < n {
-        if matches(table::part(area, i * BLOCK, BLOCK), name, rrtype, rrclass) {
-            return true;
-        }
-        i += 1;
+    // Whether a message ID is held by one of them.
+    #[tactic(auto, unfolding(crate::specs::Subscriptions::uses_id, crate::specs::Table::sub_of))]
+    pub fn uses_id(self, id: u16) -> bool
+        ensures { result ≡ uses_id id (subscriptions_in self.entry) }
+    {
+        self.any(|b| b.has_id(id))
     }
-    false
+
+    // Whether one of them has the same name, type and class, whatever its ID.
+    #[tactic(auto, unfolding(crate::specs::Subscriptions::asks_already))]
+    pub fn asks_already(self, question: Question<'_>) -> bool
+        ensures { result ≡ asks_already (subscription_for 0 question.entry) (subscriptions_in self.entry) }
+    {
+        self.any(|b| b.asks_same(question))
+    }
+
+    // Whether one of them matches a record of this name, type and class.
+    pub fn wanted(self, of: Question<'_>) -> bool
+        ensures { result ≡ wanted_by (subscriptions_in self.entry) (record_for of.entry) }
+    {
+        self.any(|b| b.matches(of))
+    }
 }
 
 // ---- one more
 
-fn write_numbers(area: &mut [u8], at: usize, id: u16, rrtype: u16, rrclass: u16)
+fn write_numbers(area: &mut [u8], at: usize, id: u16, question: Question<'_>)
     requires { at + block_size ≤ length area.old }
-    ensures { area.new ≡ sets area.old at (octets 2 id ++ (octets 2 rrtype ++ octets 2 rrclass)) }
+    ensures { area.new ≡ sets area.old at (octets 2 id ++ (octets 2 question.entry.rrtype ++ octets 2 question.entry.rrclass)) }
 {
     wire::write16(area, at, id);
-    wire::write16(area, at + RRTYPE, rrtype);
-    wire::write16(area, at + RRCLASS, rrclass);
+    wire::write16(area, at + RRTYPE, question.rrtype);
+    wire::write16(area, at + RRCLASS, question.rrclass);
 }
 
 // A name behind its length.
@@ -165,32 +172,22 @@ fn write_owner(area: &mut [u8], at: usize, name: &[u8])
     wire::write_octets(area, at + 1, name);
 }
 
-fn write_block(area: &mut [u8], at: usize, id: u16, name: &[u8], rrtype: u16, rrclass: u16)
-    requires { (at + block_size ≤ length area.old) × (length name.now ≤ max_name) }
-    ensures { area.new ≡ sets area.old at (sub_octets (subscription id name.now rrtype rrclass)) }
+fn write_block(area: &mut [u8], at: usize, id: u16, question: Question<'_>)
+    requires { (at + block_size ≤ length area.old) × (length question.name.now ≤ max_name) }
+    ensures { area.new ≡ sets area.old at (sub_octets (subscription_for id question.entry)) }
 {
-    write_numbers(area, at, id, rrtype, rrclass);
-    write_owner(area, at + OWNER_LENGTH, name);
+    write_numbers(area, at, id, question);
+    write_owner(area, at + OWNER_LENGTH, question.name);
 }
 
 // One more at the end. How many there are then: as many as before where there is no room for it, or no name is so long.
-pub fn append(
-    area: &mut Area,
-    count: usize,
-    id: u16,
-    name: &[u8],
-    rrtype: u16,
-    rrclass: u16,
-) -> usize
-    ensures { subscriptions_of result area.new ≡ appended (subscription id name.now rrtype rrclass) (subscriptions_of count area.old) }
+pub fn append(area: &mut Area, count: usize, id: u16, question: Question<'_>) -> usize
+    ensures { subscriptions_of result area.new ≡ appended (subscription_for id question.entry) (subscriptions_of count area.old) }
 {
-    if SUBSCRIPTIONS <= count {
+    if SUBSCRIPTIONS <= count || MAX_NAME < question.name.len() {
         return count;
     }
-    if MAX_NAME < name.len() {
-        return count;
-    }
-    write_block(area, count * BLOCK, id, name, rrtype, rrclass);
+    write_block(area, count * BLOCK, id, question);
     count + 1
 }
 
@@ -206,18 +203,21 @@ fn close_gap(area: &mut Area, i: usize, n: usize) -> usize
     n - 1
 }
 
+// Where the first stands that holds a message ID.
+#[tactic(auto, unfolding(crate::specs::Table::sub_of))]
+fn place_of(area: &Area, count: usize, id: u16) -> Option<usize>
+    ensures { result ≡ position (holds_id id) (subscriptions_of count area.now) }
+{
+    Subscriptions { area, count }.position(|b| b.has_id(id))
+}
+
 // Without those of an ID: in a run there is at most one. How many are left.
 pub fn remove(area: &mut Area, count: usize, id: u16) -> usize
     ensures { subscriptions_of result area.new ≡ without id (subscriptions_of count area.old) }
 {
-    let mut n = live(count);
-    let mut i = 0;
-    while i < n {
-        if has_id(table::part(area, i * BLOCK, BLOCK), id) {
-            n = close_gap(area, i, n);
-        } else {
-            i += 1;
-        }
+    let mut n = count.min(SUBSCRIPTIONS);
+    while let Some(i) = place_of(area, n, id) {
+        n = close_gap(area, i, n);
     }
     n
 }
