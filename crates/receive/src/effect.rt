@@ -30,26 +30,28 @@ pub struct Received {
     pub effect: Effect,
 }
 
-pub fn outcome(clocks: Clocks, count: usize, effect: Effect) -> Received
-    ensures { result ≡ handed clocks count effect }
-{
-    Received {
-        clocks,
-        count,
-        effect,
-    }
+// A session's numbers while a message is received: its clocks, and how many subscriptions it has.
+#[derive(Clone, Copy)]
+pub struct Numbers {
+    pub clocks: Clocks,
+    pub count: usize,
 }
 
-// A response alone, at the front of the output.
-pub fn reply(
-    clocks: Clocks,
-    count: usize,
-    id: MessageId,
-    response: Response,
-    out: &mut [u8],
-) -> Received
-    ensures { (result ≡ replied clocks count (response_octets id.0 response)) × (out.new ≡ sets out.old 0 (response_octets id.0 response)) }
-{
-    let n = dso::write_response(out, id, response);
-    outcome(clocks, count, Effect::Reply(n))
+impl Numbers {
+    pub fn with(self, effect: Effect) -> Received
+        ensures { result ≡ handed self.clocks self.count effect }
+    {
+        Received {
+            clocks: self.clocks,
+            count: self.count,
+            effect,
+        }
+    }
+
+    // A response alone, at the front of the output.
+    pub fn reply(self, id: MessageId, response: Response, out: &mut [u8]) -> Received
+        ensures { (result ≡ replied self.clocks self.count (response_octets id.0 response)) × (out.new ≡ sets out.old 0 (response_octets id.0 response)) }
+    {
+        self.with(Effect::Reply(dso::write_response(out, id, response)))
+    }
 }

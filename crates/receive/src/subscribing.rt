@@ -2,17 +2,18 @@
 ghost use Rattle.std.specs.Prelude.{◌≤◌, ◌≡◌, length};
 ghost use Rattle.wire.specs.Field.{field};
 ghost use Rattle.wire.specs.Name.{max_name};
-ghost use Rattle.zone.specs.Table.{records_of};
-ghost use Rattle.session.specs.Table.{subscriptions_of, subscription};
+ghost use Rattle.zone.specs.Table.{records_in};
+ghost use Rattle.session.specs.Table.{subscriptions_in};
 ghost use Rattle.service.specs.Message.{part_at, asked, subscribed, answered, message_effect};
 ghost use Rattle.receive.specs.Effect.{Does, Writes, session_of};
-ghost use Rattle.receive.specs.Subscribe.{admission, accepted, accepting};
+ghost use Rattle.receive.specs.Subscribe.{subscription_of, admission, accepted, accepting};
 ghost use Rattle.dso.specs.Judge.{judged as judged_as};
 
-use crate::effect::{Effect, Received, outcome, reply};
+use crate::effect::{Effect, Numbers, Received};
 use crate::keepalive::keep_alive;
-use dso::{Judgment, MessageId, Place, QuestionPlaces, ReplyCode, Response};
-use session::Clocks;
+use dso::{Judgment, MessageId, Place, Question, QuestionPlaces, ReplyCode, Response};
+use session::{Clocks, Subscriptions};
+use zone::{Store, Zone};
 
 // The octets at a place of a message.
 fn part_at(m: &[u8], at: Place) -> &[u8]
@@ -27,164 +28,138 @@ fn field_at(m: &[u8], at: Place) -> u16
     wire::field16(part_at(m, at), 0)
 }
 
-// What a session says to a SUBSCRIBE.
+// A SUBSCRIBE: its ID, and what it asks for.
 #[derive(Clone, Copy)]
-pub enum Admission {
+pub struct Request<'a> {
+    pub id: MessageId,
+    pub question: Question<'a>,
+}
+
+// Why a SUBSCRIBE is not accepted: it ends the session, or is answered by an error.
+#[derive(Clone, Copy)]
+pub enum Denial {
     Abort,
     Refuse(ReplyCode),
-    Accept,
 }
 
 // In the order of 01; nothing is changed yet.
-fn admit(
-    zone: &[u8],
-    subs: &session::Area,
-    count: usize,
-    id: MessageId,
-    name: &[u8],
-    rrtype: u16,
-    rrclass: u16,
-) -> Admission
-    ensures { result ≡ admission zone.now (subscription id.0 name.now rrtype rrclass) (subscriptions_of count subs.now) }
+#[tactic(auto, unfolding(crate::specs::Subscribe::admission, session::specs::Subscriptions::asks_already))]
+fn admit(zone: Zone<'_>, subs: Subscriptions<'_>, request: Request<'_>) -> Result<(), Denial>
+    ensures { result ≡ admission zone.entry.name.now (subscription_of request.entry) (subscriptions_in subs.entry) }
 {
-    if session::uses_id(subs, count, id.0) {
-        return Admission::Abort;
+    let question = request.question;
+    if subs.uses_id(request.id.0) {
+        return Err(Denial::Abort);
     }
-    if wire::within(zone, name) {
-        if session::asks_already(subs, count, name, rrtype, rrclass) {
-            return Admission::Abort;
-        }
-        if session::is_full(count) {
-            return Admission::Refuse(ReplyCode::ServFail);
-        }
-        return Admission::Accept;
+    if !wire::within(zone.name, question.name) {
+        return Err(Denial::Refuse(ReplyCode::NotAuth));
     }
-    Admission::Refuse(ReplyCode::NotAuth)
+    if subs.asks_already(question) {
+        return Err(Denial::Abort);
+    }
+    if subs.is_full() {
+        return Err(Denial::Refuse(ReplyCode::ServFail));
+    }
+    Ok(())
 }
 
 // The response to an accepted SUBSCRIBE, and behind it the first PUSH; how many octets they have.
-fn write_accepted(
-    store: &zone::Area,
-    records: usize,
-    id: MessageId,
-    name: &[u8],
-    rrtype: u16,
-    rrclass: u16,
-    out: &mut [u8],
-) -> usize
-    ensures { Writes (accepted (records_of records store.now) (subscription id.0 name.now rrtype rrclass)) result out.old out.new }
+fn write_accepted(store: Store<'_>, request: Request<'_>, out: &mut [u8]) -> usize
+    ensures { Writes (accepted (records_in store.entry) (subscription_of request.entry)) result out.old out.new }
 {
-    let n = dso::write_response(out, id, Response::Subscribed);
-    n + notify::write_first(store, records, name, rrtype, rrclass, out, n)
+    let n = dso::write_response(out, request.id, Response::Subscribed);
+    n + notify::write_first(store, request.question, out, n)
 }
 
 // The session is as it was, but for one more subscription.
+#[tactic(auto, unfolding(crate::specs::Subscribe::accepting))]
 fn accept(
-    store: &zone::Area,
-    records: usize,
-    clocks: Clocks,
+    store: Store<'_>,
+    numbers: Numbers,
     subs: &mut session::Area,
-    count: usize,
-    id: MessageId,
-    name: &[u8],
-    rrtype: u16,
-    rrclass: u16,
+    request: Request<'_>,
     out: &mut [u8],
 ) -> Received
-    ensures { Does (accepting (records_of records store.now) (subscription id.0 name.now rrtype rrclass) (session_of clocks count subs.old)) result subs.new out.old out.new }
+    ensures { Does (accepting (records_in store.entry) (subscription_of request.entry) (session_of numbers.clocks numbers.count subs.old)) result subs.new out.old out.new }
 {
-    let next = session::append(subs, count, id.0, name, rrtype, rrclass);
-    let n = write_accepted(store, records, id, name, rrtype, rrclass, out);
-    outcome(clocks, next, Effect::Reply(n))
+    let count = session::append(subs, numbers.count, request.id.0, request.question);
+    let n = write_accepted(store, request, out);
+    Numbers { count, ..numbers }.with(Effect::Reply(n))
 }
 
+#[tactic(auto, using(crate::proofs::Admitted::subscribed_admitted), unfolding(crate::specs::Subscribe::accepting))]
 fn ask(
-    zone: &[u8],
-    store: &zone::Area,
-    records: usize,
-    clocks: Clocks,
+    zone: Zone<'_>,
+    numbers: Numbers,
     subs: &mut session::Area,
-    count: usize,
-    id: MessageId,
-    name: &[u8],
-    rrtype: u16,
-    rrclass: u16,
+    request: Request<'_>,
     out: &mut [u8],
 ) -> Received
-    requires { length name.now ≤ max_name }
-    ensures { Does (subscribed zone.now (records_of records store.now) (subscription id.0 name.now rrtype rrclass) (session_of clocks count subs.old)) result subs.new out.old out.new }
+    requires { length request.question.name.now ≤ max_name }
+    ensures { Does (subscribed zone.entry.name.now (records_in zone.entry.store) (subscription_of request.entry) (session_of numbers.clocks numbers.count subs.old)) result subs.new out.old out.new }
 {
-    match admit(zone, subs, count, id, name, rrtype, rrclass) {
-        Admission::Abort => outcome(clocks, count, Effect::Abort),
-        Admission::Refuse(code) => reply(clocks, count, id, Response::Error(code), out),
-        Admission::Accept => {
-            accept(
-                store, records, clocks, subs, count, id, name, rrtype, rrclass, out,
-            )
-        }
+    let count = numbers.count;
+    match admit(zone, Subscriptions { area: subs, count }, request) {
+        Ok(()) => accept(zone.store, numbers, subs, request, out),
+        Err(Denial::Abort) => numbers.with(Effect::Abort),
+        Err(Denial::Refuse(code)) => numbers.reply(request.id, Response::Error(code), out),
     }
 }
 
 // The question's parts are read at their places in the message.
+#[tactic(auto, unfolding(service::specs::Message::asked))]
 fn subscribe(
-    zone: &[u8],
-    store: &zone::Area,
-    records: usize,
-    clocks: Clocks,
+    zone: Zone<'_>,
+    numbers: Numbers,
     subs: &mut session::Area,
-    count: usize,
     m: &[u8],
     id: MessageId,
-    question: QuestionPlaces,
+    places: QuestionPlaces,
     out: &mut [u8],
 ) -> Received
-    requires { question.name.len ≤ max_name }
-    ensures { Does (subscribed zone.now (records_of records store.now) (asked m.now id question) (session_of clocks count subs.old)) result subs.new out.old out.new }
+    requires { places.name.len ≤ max_name }
+    ensures { Does (subscribed zone.entry.name.now (records_in zone.entry.store) (asked m.now id places) (session_of numbers.clocks numbers.count subs.old)) result subs.new out.old out.new }
 {
-    let name = part_at(m, question.name);
-    let rrtype = field_at(m, question.rtype);
-    let rrclass = field_at(m, question.class);
-    ask(
-        zone, store, records, clocks, subs, count, id, name, rrtype, rrclass, out,
-    )
+    let question = Question {
+        name: part_at(m, places.name),
+        rrtype: field_at(m, places.rtype),
+        rrclass: field_at(m, places.class),
+    };
+    ask(zone, numbers, subs, Request { id, question }, out)
 }
 
 // The clocks are restarted already.
+#[tactic(auto, unfolding(service::specs::Message::answered))]
 fn answer(
-    zone: &[u8],
-    store: &zone::Area,
-    records: usize,
-    clocks: Clocks,
+    zone: Zone<'_>,
+    numbers: Numbers,
     subs: &mut session::Area,
-    count: usize,
     m: &[u8],
     j: Judgment,
     out: &mut [u8],
 ) -> Received
     requires { j ≡ (judged_as m.now).judgment }
-    ensures { Does (answered zone.now (records_of records store.now) m.now j (session_of clocks count subs.old)) result subs.new out.old out.new }
+    ensures { Does (answered zone.entry.name.now (records_in zone.entry.store) m.now j (session_of numbers.clocks numbers.count subs.old)) result subs.new out.old out.new }
 {
     match j {
-        Judgment::NotOurs => outcome(clocks, count, Effect::Others),
-        Judgment::Abort => outcome(clocks, count, Effect::Abort),
-        Judgment::Reply(id, code) => reply(clocks, count, id, Response::Error(code), out),
-        Judgment::Keepalive(id) => keep_alive(clocks, subs, count, id, out),
-        Judgment::Subscribe(id, q) => {
-            subscribe(zone, store, records, clocks, subs, count, m, id, q, out)
-        }
+        Judgment::NotOurs => numbers.with(Effect::Others),
+        Judgment::Abort => numbers.with(Effect::Abort),
+        Judgment::Reply(id, code) => numbers.reply(id, Response::Error(code), out),
+        Judgment::Keepalive(id) => keep_alive(numbers, subs, id, out),
+        Judgment::Subscribe(id, places) => subscribe(zone, numbers, subs, m, id, places, out),
         Judgment::Unsubscribe(id) => {
-            outcome(clocks, session::remove(subs, count, id.0), Effect::Nothing)
+            let count = session::remove(subs, numbers.count, id.0);
+            Numbers { count, ..numbers }.with(Effect::Nothing)
         }
-        Judgment::Reconfirm(record) => outcome(clocks, count, Effect::Places(record)),
+        Judgment::Reconfirm(record) => numbers.with(Effect::Places(record)),
     }
 }
 
 // One received message: the session's next state, and what is to be answered. Total: a message of any length, any table of
 // subscriptions and any output are taken; what does not fit the output is not written.
+#[tactic(auto, unfolding(service::specs::Message::message_effect))]
 pub fn receive(
-    zone: &[u8],
-    store: &zone::Area,
-    records: usize,
+    zone: Zone<'_>,
     clocks: Clocks,
     subs: &mut session::Area,
     count: usize,
@@ -192,10 +167,17 @@ pub fn receive(
     m: &[u8],
     out: &mut [u8],
 ) -> Received
-    ensures { Does (message_effect zone.now (records_of records store.now) t m.now (session_of clocks count subs.old)) result subs.new out.old out.new }
+    ensures { Does (message_effect zone.entry.name.now (records_in zone.entry.store) t m.now (session_of clocks count subs.old)) result subs.new out.old out.new }
 {
     let judged = dso::judge(m);
-    let then = session::restarted(clocks, judged.keepalive, t);
-    let j = judged.judgment;
-    answer(zone, store, records, then, subs, count, m, j, out)
+    let mut clocks = clocks;
+    clocks.restart(judged.keepalive, t);
+    answer(
+        zone,
+        Numbers { clocks, count },
+        subs,
+        m,
+        judged.judgment,
+        out,
+    )
 }
