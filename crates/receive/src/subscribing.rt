@@ -25,7 +25,7 @@ fn part_at(m: &[u8], at: Place) -> &[u8]
 fn field_at(m: &[u8], at: Place) -> u16
     ensures { result ≡ field 2 (part_at m.now at) }
 {
-    wire::field16(part_at(m, at), 0)
+    wire::read_field(part_at(m, at), 0)
 }
 
 // A SUBSCRIBE: its ID, and what it asks for.

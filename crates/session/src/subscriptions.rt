@@ -55,7 +55,7 @@ impl<'a> Block<'a> {
     fn has_id(self, id: u16) -> bool
         ensures { result ≡ eqb (sub_of self.entry.octets.now).id id }
     {
-        wire::field16(self.octets, ID) == id
+        wire::read_field::<u16>(self.octets, ID) == id
     }
 
     #[tactic(auto, unfolding(crate::specs::Table::sub_of))]
@@ -70,8 +70,8 @@ impl<'a> Block<'a> {
     fn asks_same(self, question: Question<'_>) -> bool
         ensures { result ≡ same_question (subscription_for 0 question.entry) (sub_of self.entry.octets.now) }
     {
-        wire::field16(self.octets, RRTYPE) == question.rrtype
-            && wire::field16(self.octets, RRCLASS) == question.rrclass
+        wire::read_field::<u16>(self.octets, RRTYPE) == question.rrtype
+            && wire::read_field::<u16>(self.octets, RRCLASS) == question.rrclass
             && wire::same_name(question.name, self.owner())
     }
 
@@ -79,8 +79,8 @@ impl<'a> Block<'a> {
     fn matches(self, of: Question<'_>) -> bool
         ensures { result ≡ matching (sub_of self.entry.octets.now) (record_for of.entry) }
     {
-        let rrtype = wire::field16(self.octets, RRTYPE);
-        let rrclass = wire::field16(self.octets, RRCLASS);
+        let rrtype = wire::read_field::<u16>(self.octets, RRTYPE);
+        let rrclass = wire::read_field::<u16>(self.octets, RRCLASS);
         dso::asks_for(rrtype, rrclass, of.rrtype, of.rrclass)
             && wire::same_name(self.owner(), of.name)
     }
@@ -158,9 +158,9 @@ fn write_numbers(area: &mut [u8], at: usize, id: u16, question: Question<'_>)
     requires { at + block_size ≤ length area.old }
     ensures { area.new ≡ sets area.old at (octets 2 id ++ (octets 2 question.entry.rrtype ++ octets 2 question.entry.rrclass)) }
 {
-    wire::write16(area, at, id);
-    wire::write16(area, at + RRTYPE, question.rrtype);
-    wire::write16(area, at + RRCLASS, question.rrclass);
+    wire::write_field(area, at, id);
+    wire::write_field(area, at + RRTYPE, question.rrtype);
+    wire::write_field(area, at + RRCLASS, question.rrclass);
 }
 
 // A name behind its length.
