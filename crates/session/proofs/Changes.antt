@@ -1,15 +1,14 @@
 -- Laws of the table's changes: a block written and read back, one subscription more, those of an ID gone.
 use Prim.Native.Nat.{ℕ, zero, suc, ◌+◌, ◌-◌, ◌*◌, min, ◌≤◌, ◌<◌, ◌^◌}
 use mathlib.Core.Path.{◌≡◌, refl, sym, ap, ap₂, ◌∙◌}
-use mathlib.Core.Bool.{Bool, true, false, cond, not, ◌||◌, or-true}
+use mathlib.Core.Bool.{Bool, false, cond, not, ◌||◌}
 use mathlib.Core.List.{List, [], ◌∷◌, ◌++◌, map, append_assoc, map-append}
 use native.Mathlib.Nat.{add-zero}
 use native.Mathlib.Numerals.{add-one}
 use native.Mathlib.Omega.{arith}
 use lib.ListN.{length, take, drop, get_or, set, length-append, length-drop}
 use lib.Seq.{sets, take_at, drop_at, drop-drop, length-take-le}
-use lib.Dec.{ltb}
-use borrow.Author.Tests.{lt-ltb, le-ltb, le-leb, lt-leb}
+use borrow.Author.Tests.{le-ltb, lt-leb}
 use Rattle.wire.specs.Field.{field, octets}
 use Rattle.wire.specs.Name.{max_name}
 use Rattle.wire.specs.Part.{part}
@@ -109,26 +108,9 @@ module _ (s : Subscription) (subs : List Subscription) where
   abbrev when : Bool → Bool → List Subscription
   when full long = cond (full || long) subs (subs ++ (s ∷ []))
 
-  pub appended-full : is_full subs ≡ true → appended s subs ≡ subs
-  unfolding appended
-  appended-full h = ap (λ (b : Bool). when b (ltb max_name (length s.owner))) h
-
-  pub appended-long : max_name < length s.owner → appended s subs ≡ subs
-  unfolding appended
-  appended-long h =
-      ap (when (is_full subs)) (lt-ltb max_name (length s.owner) h) ∙ ap (λ (b : Bool). cond b subs (subs ++ (s ∷ []))) (or-true (is_full subs))
-
   pub appended_one : is_full subs ≡ false → length s.owner ≤ max_name → appended s subs ≡ subs ++ (s ∷ [])
   unfolding appended
   appended_one h k = ap₂ when h (le-ltb max_name (length s.owner) k)
-
-module _ (s : Subscription) (count : ℕ) (a : List ℕ) where
-  pub append-full : max_subscriptions ≤ count → subscriptions_of count a ≡ appended s (subscriptions_of count a)
-  append-full h =
-      sym (appended-full s (subscriptions_of count a) (sym (is_full-count count a) ∙ le-leb max_subscriptions count h))
-
-  pub append-long : max_name < length s.owner → subscriptions_of count a ≡ appended s (subscriptions_of count a)
-  append-long h = sym (appended-long s (subscriptions_of count a) h)
 
 -- The block behind the last one, written.
 pub append-written : (s : Subscription) (count : ℕ) (a b : List ℕ) → Fit s → length a ≡ area_size → count < max_subscriptions

@@ -8,7 +8,7 @@ use lib.ListN.{length, drop, get_or, length-map, get_or-map}
 use lib.Seq.{drop-cons}
 use lib.Dec.{leb, ltb}
 use borrow.Author.Count.{below_more}
-use borrow.Author.Tests.{lt-ltb, le-ltb, le-leb, lt-leb, leb-true, leb-false}
+use borrow.Author.Tests.{lt-ltb, le-ltb}
 use Rattle.std.specs.Prelude.{Some, None, is_some, position}
 use Rattle.std.specs.List.{position_from, position_or_len}
 use Rattle.std.proofs.lemmas.List.Sums.{position_or_len_is}
@@ -61,12 +61,7 @@ subscriptions_of-some count a h = drop-cons (subscriptions_of count a) 0 (sub_of
 
 pub is_full-count : (count : ℕ) (a : List ℕ) → leb max_subscriptions count ≡ is_full (subscriptions_of count a)
 unfolding is_full
-is_full-count count a =
-    clamped (leb max_subscriptions count) refl ∙ sym (ap (leb max_subscriptions) (length_subscriptions_of count a))
-  where
-    clamped : (b : Bool) → leb max_subscriptions count ≡ b → leb max_subscriptions count ≡ leb max_subscriptions (min count max_subscriptions)
-    clamped true h = h ∙ sym (le-leb max_subscriptions (min count max_subscriptions) (omega (arith, leb-true max_subscriptions count h)))
-    clamped false h = h ∙ sym (lt-leb max_subscriptions (min count max_subscriptions) (omega (arith, leb-false max_subscriptions count h)))
+is_full-count count a = grind (arith, length_subscriptions_of count a)
 
 -- ---- a search through them
 

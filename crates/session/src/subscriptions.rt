@@ -181,6 +181,7 @@ fn write_block(area: &mut [u8], at: usize, id: u16, question: Question<'_>)
 }
 
 // One more at the end. How many there are then: as many as before where there is no room for it, or no name is so long.
+#[tactic(auto, using(crate::proofs::Table::length_subscriptions_of), unfolding(crate::specs::Table::appended, crate::specs::Subscriptions::is_full))]
 pub fn append(area: &mut Area, count: usize, id: u16, question: Question<'_>) -> usize
     ensures { subscriptions_of result area.new ≡ appended (subscription_for id question.entry) (subscriptions_of count area.old) }
 {
