@@ -1,6 +1,8 @@
 -- Reading what stands on a stream: messages behind their lengths, and PUSH messages. Written from RFC 8490 and RFC 8765; what
 -- the server writes has no part in it.
 use Rattle.std.specs.Prelude.{ℕ, zero, suc, ◌+◌, Bool, cond, not, ◌&&◌, List, [], ◌∷◌, length, take, drop, leb, eqb}
+use Rattle.std.specs.Prelude as std
+use Rattle.std.specs.Prelude.{None, Some}
 use Rattle.std.proofs.Math.Option.{Option, none, some}
 use Rattle.wire.specs.Field.{field}
 use Rattle.dso.specs.Header.{header_length, dso_opcode, message_id, is_response, opcode, no_records}
@@ -43,10 +45,10 @@ one_at_least (some []) = none
 one_at_least (some (c ∷ cs)) = some (c ∷ cs)
 
 -- "The DSO-TYPE is PUSH (0x0041)", of the first TLV; later ones are ignored.
-abbrev pub changes_of : Option (List Tlv) → Option (List Change)
-changes_of none = none
-changes_of (some []) = none
-changes_of (some (t ∷ ts)) = cond (eqb t.kind push_type) (one_at_least (changes_in 0 t.value)) none
+abbrev pub changes_of : std.Option (List Tlv) → Option (List Change)
+changes_of None = none
+changes_of (Some []) = none
+changes_of (Some (t ∷ ts)) = cond (eqb t.kind push_type) (one_at_least (changes_in 0 t.value)) none
 
 -- The changes of a PUSH message; none where it is no such message, or is malformed.
 unfoldable pub push_in : List ℕ → Option (List Change)

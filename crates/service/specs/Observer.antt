@@ -1,6 +1,8 @@
 -- The observer (01: the plain book), kept from the calls' arguments, answers and bytes stated as written, and never from the
 -- server's state.
 use Rattle.std.specs.Prelude.{ℕ, suc, ◌+◌, Bool, cond, ◌&&◌, ◌||◌, List, [], ◌∷◌, ◌++◌, set, get_or, take, drop, replicate, eqb}
+use Rattle.std.specs.Prelude as std
+use Rattle.std.specs.Prelude.{None, Some}
 use Rattle.std.proofs.Math.Option.{Option, none, some, map}
 use Rattle.wire.specs.Field.{field}
 use Rattle.wire.specs.Name.{name_length}
@@ -83,9 +85,9 @@ after_tick (reconfirm places) cl = cl
 after_tick (refused r) cl = cl
 
 -- The subscription that a message of first type 0x0040 asks for: "its ID, name, type and class".
-abbrev pub named : List ℕ → Option ℕ → Subscription
-named m none = record { id = message_id m; owner = []; rrtype = 0; rrclass = 0 }
-named m (some n) =
+abbrev pub named : List ℕ → std.Option ℕ → Subscription
+named m None = record { id = message_id m; owner = []; rrtype = 0; rrclass = 0 }
+named m (Some n) =
     record {
       id = message_id m;
       owner = take n (drop data_start m);
