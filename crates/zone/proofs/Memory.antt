@@ -1,12 +1,12 @@
 -- Laws of the store in lent memory: its blocks, keys, the search for a key.
-use Prim.Native.Nat.{ℕ, zero, suc, min, ◌≤◌, ◌<◌}
+use Prim.Native.Nat.{ℕ, zero, suc, min, ◌*◌, ◌≤◌, ◌<◌}
 use mathlib.Core.Path.{◌≡◌, refl, sym, ap, ◌∙◌}
 use mathlib.Core.Bool.{Bool, true, false, ◌&&◌}
 use mathlib.Core.List.{List, [], ◌∷◌, map}
 use native.Mathlib.Nat.{min-eq_left}
 use native.Mathlib.Numerals.{one-add}
 use native.Mathlib.Omega.{arith}
-use lib.ListN.{length, take, drop, get_or, length-map, get_or-map}
+use lib.ListN.{length, take, drop, get_or, length-map, get_or-map, drop_of_length-le}
 use lib.Seq.{drop-cons}
 use lib.Dec.{eqb}
 use Rattle.std.specs.Prelude.{Option, None, Some, MatchOption}
@@ -15,10 +15,15 @@ use Rattle.table.specs.Blocks.{blocks}
 use Rattle.table.proofs.Blocks.{length-blocks, blocks_at, take-blocks, take-map}
 use Rattle.zone.specs.Record.{Record, Key, key_of, same_key}
 use Rattle.zone.specs.Batch.{max_records}
-use Rattle.zone.specs.Table.{block_size, block_at, rec_of, records_of, key_from, index_of}
+use Rattle.zone.specs.Table.{block_size, area_size, block_at, rec_of, records_of, key_from, index_of}
 use Rattle.zone.specs.Update.{keyed, Passes}
 use Rattle.zone.proofs.Lists.{never, clash}
 use Rattle.zone.proofs.Keys.{same_key-true}
+
+-- ---- a block
+
+pub block_past : (a : List ℕ) (i : ℕ) → length a ≡ area_size → max_records ≤ i → [] ≡ block_at a i
+block_past a i l h = sym (ap (take block_size) (drop_of_length-le a {i = i * block_size} (omega arith)))
 
 -- ---- a key, by the tests in the order in which the code asks them
 

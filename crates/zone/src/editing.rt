@@ -28,7 +28,7 @@ fn set_ttl_if(area: &mut Area, n: usize, i: usize, edit: Edit<'_>)
     ensures { TtlSetIf (key_in edit.entry.key) edit.entry.ttl area.old i area.new }
 {
     let store = Store { area, count: n };
-    if store.block(i).is_keyed(edit.key) {
+    if store.has_key_at(i, edit.key) {
         set_ttl(area, i, edit.ttl);
     }
 }
@@ -59,7 +59,7 @@ fn remove_if(area: &mut Area, n: usize, i: usize, key: RecordKey<'_>) -> usize
     ensures { DroppedIf (key_in key.entry) area.old n i area.new result }
 {
     let store = Store { area, count: n };
-    if store.block(i).is_keyed(key) {
+    if store.has_key_at(i, key) {
         close_gap(area, n, i);
         return n - 1;
     }

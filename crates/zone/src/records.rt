@@ -3,7 +3,7 @@ ghost use Rattle.std.specs.Prelude.{min, ◌≡◌};
 ghost use Rattle.zone.specs.Record.{key_of, same_key};
 ghost use Rattle.zone.specs.Batch.{max_records};
 ghost use Rattle.zone.specs.Table.{block_at, rec_of, key_in, records_in, index_of};
-ghost use Rattle.zone.specs.Update.{Passes};
+ghost use Rattle.zone.specs.Update.{keyed, Passes};
 
 // The most records, and the most octets of an owner and of RDATA.
 pub const RECORDS: usize = 40;
@@ -120,14 +120,6 @@ impl<'a> Block<'a> {
             && wire::same_octets(self.rdata(), key.rdata)
             && wire::same_name(self.owner(), key.name)
     }
-
-    // The same. Loops ask this: mostly a quick look at the RDATA says no.
-    #[tactic(auto, using(crate::proofs::Memory::key_apart))]
-    pub(crate) fn is_keyed(self, key: RecordKey<'_>) -> bool
-        ensures { result ≡ same_key (key_of (rec_of self.entry.octets.now)) (key_in key.entry) }
-    {
-        may_be_same(self.rdata(), key.rdata) && self.has_key(key)
-    }
 }
 
 // A quick look at octets: their number, the first and the last.
@@ -146,19 +138,36 @@ impl<'a> Store<'a> {
     }
 
     // Past the last block of the area nothing.
+    #[tactic(auto, using(crate::proofs::Memory::block_past))]
     pub fn block(self, i: usize) -> Block<'a>
         ensures { result.octets.now ≡ block_at self.entry.area.now i }
     {
         let area = self.area;
+        let (at, size) = if i < RECORDS {
+            (i * BLOCK, BLOCK)
+        } else {
+            (AREA, 0)
+        };
         Block {
-            octets: table::part(area, i.min(RECORDS) * BLOCK, BLOCK),
+            octets: table::part(area, at, size),
         }
+    }
+
+    // Whether the record in a block has a key. Loops ask this: mostly a quick look at the RDATA says no, and it stays in the
+    // loop, where the key's parts are at hand.
+    #[inline(always)]
+    #[tactic(auto, using(crate::proofs::Memory::key_apart))]
+    pub(crate) fn has_key_at(self, i: usize, key: RecordKey<'_>) -> bool
+        ensures { result ≡ keyed self.entry.area.now i (key_in key.entry) }
+    {
+        let block = self.block(i);
+        may_be_same(block.rdata(), key.rdata) && block.has_key(key)
     }
 
     // Where the first record with a key stands.
     pub fn find(self, key: RecordKey<'_>) -> Option<usize>
         ensures { result ≡ index_of (key_in key.entry) (records_in self.entry) }
     {
-        (0..self.len()).find(|&i| self.block(i).is_keyed(key))
+        (0..self.len()).find(|&i| self.has_key_at(i, key))
     }
 }
