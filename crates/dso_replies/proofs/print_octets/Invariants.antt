@@ -1,9 +1,0 @@
--- `i` stays within the slice, and the measure is what is left of it.
-use Rattle.std.proofs.Common.{◌-◌, ◌≤◌, length}
-use Rattle.dso_replies.proofs.print_octets.Given as goal
-
-abbrev pub invariant-loop-i : goal.invariant-loop-i
-invariant-loop-i g l = l.i ≤ length l.s
-
-abbrev pub decreases-loop-i : goal.decreases-loop-i
-decreases-loop-i g l = length l.s - l.i
