@@ -12,7 +12,7 @@ use lib.Dec.{ltb, eqb}
 use Rattle.std.specs.Prelude.{Option, Some, None, Result, Ok, Err}
 use Rattle.wire.specs.Field.{field}
 use Rattle.dso.specs.Header.{message_id, no_records, opcode, is_response}
-use Rattle.dso.specs.Tlv.{Tlv, also, tlvs, is_some, filled, tlv_place, TlvStep, tlv_at, placed, stepped, Steps}
+use Rattle.dso.specs.Tlv.{Tlv, also, tlvs, is_some, filled, tlv_place, TlvStep, tlv_at, placed, stepped, ReadsNext}
 use Rattle.dso.specs.Judge.{Opening, Opening.settled, Opening.primary, bad_form, first_of, form_of, opening, by_type, judgment, is_keepalive, judged}
 use Rattle.std.specs.Result.{result_ok}
 use Rattle.std.specs.Bool.{then_some}
@@ -107,7 +107,7 @@ filled-first t None = refl
 filled-first t (Some ts) = refl
 
 -- A reader's first step behind the header.
-module _ (m : List ℕ) (r : Reader) (message : r.message.now ≡ m) (at : r.at ≡ 12) (x : TlvStep) (s : Reader) (step : Steps r x s) where
+module _ (m : List ℕ) (r : Reader) (message : r.message.now ≡ m) (at : r.at ≡ 12) (x : TlvStep) (s : Reader) (step : ReadsNext r x s) where
   read : x ≡ tlv_at m 12
   read = step.reads ∙ ap₂ tlv_at message at
 
@@ -155,6 +155,16 @@ module _ (m : List ℕ) (o : Option TlvPlace) (first : o ≡ first_place (tlvs (
       go : (b : Bool) → no_records m ≡ b → Err (bad_form (message_id m)) ≡ start_of (form_of m)
       go true w = sym (rw w (start-by (message_id m) (tlvs (drop 12 m)) ∙ ap (λ (x : Option TlvPlace). ok_or x (bad_form (message_id m))) (sym first ∙ e)))
       go false w = form-counted w
+
+-- No whole TLV stands behind the header: the end does, or one that is cut short.
+module _ (m : List ℕ) (s : TlvStep) (w : no_records m ≡ true) (e : s ≡ tlv_at m 12) where
+  pub start_none : (j : Judgment) → j ≡ bad_form (message_id m) → ((t : TlvPlace) → s ≡ Some (Ok t) → ⊥) → Err j ≡ start_of (form_of m)
+  start_none j p k = rw (form-at m w ∙ ap (opens m) (sym e) ∙ not-whole s k) (ap Err p)
+    where
+      not-whole : (x : TlvStep) → ((t : TlvPlace) → x ≡ Some (Ok t) → ⊥) → opens m x ≡ settled (bad_form (message_id m))
+      not-whole (Some (Ok t)) z = absurd (z t refl)
+      not-whole None z = refl
+      not-whole (Some (Err e)) z = refl
 
 -- Where steps 1 to 3 leave the first TLV to decide, it stands whole behind the header.
 module _ (m : List ℕ) (x : Tlv) (o : opening m ≡ primary x) where

@@ -16,6 +16,7 @@ use Rattle.wire.proofs.Writes.{sets-append}
 use Rattle.dso.specs.Header.{message_id, flags, is_response, opcode, z_bits, rcode, no_records}
 use Rattle.dso.specs.Tlv.{Tlv, tlv_front, also, tlvs_from, tlvs}
 use Rattle.dso.specs.Response.{header, response_flags, tlv_octets, tlvs_octets, framed, response_code, response_tlvs, response, response_octets, ReadsMessage, ReadsAs}
+use Rattle.dso.specs.declared.judgment.ReplyCode.{ReplyCode}
 use Rattle.dso.specs.declared.judgment.ReplyCode.TheVariants.{FormErr, ServFail, NotAuth, DsoTypeNi}
 use Rattle.dso.specs.declared.response.Timeouts.{Timeouts}
 use Rattle.dso.specs.declared.response.Response.{Response}
@@ -228,23 +229,21 @@ pub timeouts-length : (t : Timeouts) → length (octets 4 t.inactivity ++ octets
 unfolding octets
 timeouts-length t = refl
 
--- The count of octets of a response, by its kind.
-abbrev pub counted : Response → ℕ
-counted (Error c) = 22
-counted (Keepalive t) = 26
-counted Subscribed = 14
-
-pub response-counted : (id : ℕ) (r : Response) → counted r ≡ length (response_octets id r)
+-- How many octets each kind has, and those of an answer to a SUBSCRIBE: what `write_response` is proved by.
+pub error-length : (id : ℕ) (c : ReplyCode) → length (response_octets id (Error c)) ≡ 22
 unfolding response_octets framed response tlvs_octets tlv_octets header octets
-response-counted id (Error c) = refl
-response-counted id (Keepalive t) = refl
-response-counted id Subscribed = refl
+error-length id c = refl
+
+pub keepalive-length : (id : ℕ) (t : Timeouts) → length (response_octets id (Keepalive t)) ≡ 26
+unfolding response_octets framed response tlvs_octets tlv_octets header octets
+keepalive-length id t = refl
+
+pub subscribed-length : (id : ℕ) → length (response_octets id Subscribed) ≡ 14
+unfolding response_octets framed response tlvs_octets header octets
+subscribed-length id = refl
 
 pub subscribed-octets : (id : ℕ) → octets 2 12 ++ header id 0xB000 ≡ response_octets id Subscribed
 unfolding response_octets framed response tlvs_octets header octets
 subscribed-octets id = refl
 
--- What a writer gave, of the response that it was called for.
-pub written_as : (o e : List ℕ) (id : ℕ) (r s : Response) → s ≡ r → e ≡ sets o 0 (response_octets id r)
-    → (counted r ≡ length (response_octets id s)) × (e ≡ sets o 0 (response_octets id s))
-written_as o e id r s p w = (rw p (response-counted id r), rw p w)
+pub ruleset kinds = (error-length, keepalive-length, subscribed-length, subscribed-octets)

@@ -3,7 +3,7 @@
 use Prim.Native.Nat.{ℕ, zero, suc, ◌+◌, ◌-◌, ◌<◌, ◌≤◌}
 use native.Mathlib.Nat.{le_of_suc-le-suc, not-suc-le-zero}
 use native.Mathlib.Omega.{arith}
-use mathlib.Core.Path.{◌≡◌, refl, sym, ap, ◌∙◌}
+use mathlib.Core.Path.{◌≡◌, refl, sym, ap, subst, ◌∙◌}
 use mathlib.Core.Bool.{Bool, true, false, cond, true≢false, false≢true}
 use mathlib.Core.List.{List, [], ◌∷◌}
 use lib.ListN.{length, drop, length-drop, drop_of_length-le}
@@ -11,10 +11,14 @@ use lib.Seq.{drop-drop}
 use Rattle.wire.specs.Field.{field}
 use lib.Dec.{ltb}
 use borrow.Author.Tests.{lt-ltb, le-ltb, ltb-true, ltb-false}
-use Rattle.std.specs.Result.{is_err}
+use denote.Param.Members.{Mut, Called}
+use Rattle.std.specs.Iterator.{Yields}
+use Rattle.std.specs.List.{FoldsTo}
+use Rattle.std.specs.Option.{MatchOption}
+use Rattle.std.specs.Result.{is_ok}
 use Rattle.dso.specs.declared.reader.Reader.{Reader}
 use Rattle.std.specs.Prelude.{Option, Some, None, Result, Ok, Err}
-use Rattle.dso.specs.Tlv.{Tlv, tlv_front, also, tlvs_from, tlvs, is_some, filled, tlv_place, TlvStep, cut_short, tlv_at, placed, stepped, place_behind, Steps}
+use Rattle.dso.specs.Tlv.{Tlv, tlv_front, also, tlvs_from, tlvs, is_some, filled, tlv_place, TlvStep, cut_short, tlv_at, placed, stepped, place_behind, ReadsNext}
 use Rattle.dso.specs.declared.reader.CutShort.{CutShort}
 use Rattle.dso.specs.declared.reader.TlvPlace.{TlvPlace}
 
@@ -80,18 +84,6 @@ module _ (m : List ℕ) (at : ℕ) where
       go true true q d = let z : ◌≡◌ {A = ℕ} 0 1 = cc in absurd (omega arith)
       go true false q d = (cc, ltb-false (length m) (at + 4 + size) q)
 
-  -- What stands at a place stands in the message, and a reader is nearer to the message's end behind it.
-  pub nearer-end : (x : Result TlvPlace CutShort) (next : ℕ) → tlv_at m at ≡ Some x → next ≡ place_behind m at (Some x) → length m - next < length m - at
-  unfolding tlv_at
-  nearer-end x next e n = rw n (go (ltb at (length m)) (ltb (length m) (at + 4 + size)) refl refl x e)
-    where
-      go : (a b : Bool) → ltb at (length m) ≡ a → ltb (length m) (at + 4 + size) ≡ b → (x : Result TlvPlace CutShort) → cond a (cond b (Some (Err cut_short)) (Some (Ok here))) None ≡ Some x → length m - place_behind m at (Some x) < length m - at
-      go false b p q x d = let z : ◌≡◌ {A = ℕ} 0 1 = cc in absurd (omega arith)
-      go true true p q (Err y) d = omega (arith, ltb-true at (length m) p)
-      go true true p q (Ok t) d = let z : ◌≡◌ {A = ℕ} 0 1 = cc in absurd (omega arith)
-      go true false p q (Ok t) d = let same : t ≡ here = cc in rw same (omega (arith, ltb-true at (length m) p, ltb-false (length m) (at + 4 + size) q))
-      go true false p q (Err y) d = let z : ◌≡◌ {A = ℕ} 0 1 = cc in absurd (omega arith)
-
   size_at : field 2 (drop 2 (drop at m)) ≡ size
   size_at = ap (field 2) (drop-drop 2 at m)
 
@@ -123,23 +115,58 @@ module _ (m : List ℕ) (at : ℕ) where
       go true true p q = tlvs-short (ltb-true at (length m) p) (ltb-true (length m) (at + 4 + size) q)
       go true false p q = tlvs-whole (ltb-false (length m) (at + 4 + size) q)
 
+  module _ (s : TlvStep) (e : s ≡ tlv_at m at) where
+    module _ (t : TlvPlace) (d : s ≡ Some (Ok t)) where
+      pub next-after : at + 4 ≤ t.next
+      next-after =
+          let h : t ≡ here = (whole_here t (sym e ∙ d)).0 in
+          rw h (omega arith)
+
+      pub next-in : t.next ≤ length m
+      next-in = rw (whole_here t (sym e ∙ d)).0 (whole_here t (sym e ∙ d)).1
+
+    -- Behind what was read a reader is nearer to the message's end.
+    pub nearer-end : (x : Result TlvPlace CutShort) (next : ℕ) → s ≡ Some x → next ≡ place_behind m at (Some x) → length m - next < length m - at
+    nearer-end (Ok t) next d n = omega (arith, next-after t d, next-in t d)
+    nearer-end (Err y) next d n = omega (arith, inside (ltb at (length m)) refl (sym e ∙ d))
+      where
+        inside : (a : Bool) → ltb at (length m) ≡ a → tlv_at m at ≡ Some (Err y) → at < length m
+        inside true p q = ltb-true at (length m) p
+        inside false p q = let z : ◌≡◌ {A = ℕ} 0 1 = cc (tlv_at-end (ltb-false at (length m) p)) in absurd (omega arith)
+
 -- A step of a reader, and whether TLVs fill its message from its place on.
 abbrev pub fills : Reader → Bool
 fills r = filled (drop r.at r.message.now)
 
-module _ (r : Reader) (x : TlvStep) (s : Reader) (step : Steps r x s) where
+module _ (r : Reader) (x : TlvStep) (s : Reader) (step : ReadsNext r x s) where
   filled_by : fills r ≡ is_some (stepped r.message.now x)
   unfolding filled
   filled_by = ap is_some (tlvs-at r.message.now r.at ∙ ap (stepped r.message.now) (sym step.reads))
 
-  pub fills-next : (y : Result TlvPlace CutShort) → x ≡ Some y → is_err y ≡ false → fills r ≡ fills s
+  pub fills-next : (y : Result TlvPlace CutShort) → x ≡ Some y → is_ok y ≡ true → fills r ≡ fills s
   unfolding filled
   fills-next (Ok t) e h = let goes = step.goes in let same = step.same in filled_by ∙ rw e (also-some (placed r.message.now t) (tlvs (drop t.next r.message.now)) ∙ rw (goes, same, e))
-  fills-next (Err c) e h = absurd (true≢false h)
+  fills-next (Err c) e h = absurd (false≢true h)
 
-  pub fills-cut : (y : Result TlvPlace CutShort) → x ≡ Some y → is_err y ≡ true → fills r ≡ false
-  fills-cut (Ok t) e h = absurd (false≢true h)
+  pub fills-cut : (y : Result TlvPlace CutShort) → x ≡ Some y → is_ok y ≡ false → fills r ≡ false
+  fills-cut (Ok t) e h = absurd (true≢false h)
   fills-cut (Err c) e h = filled_by ∙ rw e
 
   pub fills-end : x ≡ None → fills r ≡ true
   fills-end e = filled_by ∙ rw e
+
+-- `all` over a reader, whose closure says of each step whether it read a whole TLV: whether TLVs fill the message.
+module _ {F : Type 0} (g : Mut F (Result TlvPlace CutShort × Unit {0}) Bool) (f : F)
+    (tests : (x : Result TlvPlace CutShort) (b : Bool) (q : F) → Called g f (x, tt) b q → (q ≡ f) × (b ≡ is_ok x))
+    (r : Bool) (o : TlvStep) (j : F) (t u : Reader) (last : ReadsNext t o u) (stops : MatchOption o (r ≡ true) (λ x. (r ≡ false) × ((h : F) × Called g j (x, tt) false h))) where
+  at-last : j ≡ f → (p : TlvStep) → o ≡ p → r ≡ fills t
+  at-last e None d = (rw d at stops) ∙ sym (fills-end t o u last d)
+  at-last e (Some x) d =
+      let s = rw d at stops in
+      s.0 ∙ sym (fills-cut t o u last x d (sym (tests x false s.1.0 (subst (λ (z : F). Called g z (x, tt) false s.1.0) e s.1.1)).1))
+
+  pub all-fill : (xs : List (Result TlvPlace CutShort)) (s : Reader) (p : F) → p ≡ f → Yields ReadsNext s xs t → FoldsTo (λ (a : F) (x : Result TlvPlace CutShort) (b : F). Called g a (x, tt) true b) p xs j → r ≡ fills s
+  all-fill [] s p e y c = at-last (sym c ∙ e) o refl ∙ ap fills (sym y)
+  all-fill (x ∷ xs) s p e y c =
+      let told = tests x true c.0 (subst (λ (z : F). Called g z (x, tt) true c.0) e c.1) in
+      all-fill xs y.0 c.0 told.0 y.2 c.2 ∙ sym (fills-next s (Some x) y.0 y.1 x refl (sym told.1))

@@ -73,7 +73,7 @@ place_behind m at None = at
 place_behind m at (Some (Err e)) = length m
 
 -- A reader is stepped on: it gives what stood at its place, and holds the same message at the place behind.
-pub record Steps (r : Reader) (read : TlvStep) (s : Reader) : Type 0 where
+pub record ReadsNext (r : Reader) (read : TlvStep) (s : Reader) : Type 0 where
   pub reads : read ≡ tlv_at r.message.now r.at
   pub same : s.message.now ≡ r.message.now
   pub goes : s.at ≡ place_behind r.message.now r.at read

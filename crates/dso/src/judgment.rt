@@ -63,7 +63,8 @@ pub enum Judgment {
 }
 
 // A judgment, and whether the message's first TLV is a Keepalive and was looked at (step 4 of 01 reached, a malformed
-// one too): such a message restarts the keepalive clock alone.
+// one too): such a message restarts the keepalive clock alone. The flag is no variant of the judgment, since it stands beside
+// an error and an abort too (`specs/Judge.judged`, of which the definitions of the service speak).
 #[derive(Clone, Copy)]
 pub struct Judged {
     pub judgment: Judgment,

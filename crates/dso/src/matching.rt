@@ -28,6 +28,7 @@ fn asks_type(qtype: u16, rtype: u16) -> bool
     qtype == rtype || qtype == ANY || rtype == CNAME
 }
 
+// Four numbers and not two questions: names are compared first, and the C question of this test (weavemitten) has none.
 #[tactic(auto, unfolding(crate::specs::Match::asks_for))]
 pub fn asks_for(qtype: u16, qclass: u16, rtype: u16, class: u16) -> bool
     ensures { result ≡ asks_for qtype qclass rtype class }

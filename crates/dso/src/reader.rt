@@ -4,7 +4,7 @@ ghost use Rattle.std.specs.Prelude.{◌≡◌, ◌-◌, ◌≤◌, IfSome, lengt
 ghost use Rattle.std.specs.Iterator.{at_most};
 ghost use Rattle.wire.specs.Name.{max_name};
 ghost use Rattle.wire.specs.Reading.{name_at};
-ghost use Rattle.dso.specs.Tlv.{tlv_at, Steps};
+ghost use Rattle.dso.specs.Tlv.{tlv_at, ReadsNext};
 
 use crate::judgment::Place;
 use wire::{name_at, read_field};
@@ -15,7 +15,8 @@ pub struct Reader<'a> {
     at: usize,
 }
 
-// A whole TLV in a message: its type, where its data stands (`value`), and where the next one begins.
+// A whole TLV in a message: its type, where its data stands (`value`), and where the next one begins. Its type is a number,
+// since a TLV of any type is read.
 #[derive(Clone, Copy)]
 pub struct TlvPlace {
     pub kind: u16,
@@ -44,6 +45,7 @@ impl<'a> Reader<'a> {
 }
 
 // What stands at a place of a message: a whole TLV, one that is cut short, or nothing more.
+#[tactic(auto, unfolding(crate::specs::Tlv::tlv_at))]
 fn tlv_at(m: &[u8], at: usize) -> Option<Result<TlvPlace, CutShort>>
     ensures { result ≡ tlv_at m.now at }
 {
@@ -68,7 +70,7 @@ fn tlv_at(m: &[u8], at: usize) -> Option<Result<TlvPlace, CutShort>>
 impl<'a> Iterator for Reader<'a> {
     type Item = Result<TlvPlace, CutShort>;
 
-    ghost next_gives = { Steps };
+    ghost next_gives = { ReadsNext };
 
     ghost remaining = { λ r. at_most (length r.message.now - r.at) };
 

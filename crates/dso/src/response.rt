@@ -73,7 +73,7 @@ pub fn write_header(out: &mut [u8], length: u16, id: MessageId, flags: u16)
     write_octets(out, 0, &front);
 }
 
-// The type and the length of a TLV.
+// The type and the length of a TLV. Any number is a type here: a `TlvType` would ask more of callers.
 #[tactic(auto, using(crate::proofs::Responses::octets_16))]
 pub fn write_tlv(out: &mut [u8], at: usize, kind: u16, length: u16)
     ensures { out.new ≡ sets out.old at (octets 2 kind ++ octets 2 length) }
@@ -112,6 +112,7 @@ fn write_keepalive(out: &mut [u8], id: MessageId, timeouts: Timeouts)
 
 // A response with its length prefix, from the front of a lent part on; how many octets it has. What does not fit is not
 // written.
+#[tactic(auto, using(crate::proofs::Responses::kinds))]
 pub fn write_response(out: &mut [u8], id: MessageId, response: Response) -> usize
     ensures { (result ≡ count (response_octets id.0 response)) × (out.new ≡ sets out.old 0 (response_octets id.0 response)) }
 {

@@ -5,13 +5,8 @@ ghost use Rattle.dso.specs.Tlv.{filled};
 use crate::reader::Reader;
 
 // Whether TLVs fill a message exactly from a reader's place on.
-pub fn tlvs_fill<'a>(tlvs: Reader<'a>) -> bool
+pub fn tlvs_fill<'a>(mut tlvs: Reader<'a>) -> bool
     ensures { result ≡ filled (drop tlvs.entry.at tlvs.entry.message.now) }
 {
-    for tlv in tlvs {
-        if tlv.is_err() {
-            return false;
-        }
-    }
-    true
+    tlvs.all(|tlv| tlv.is_ok())
 }

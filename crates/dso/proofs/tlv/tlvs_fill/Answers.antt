@@ -1,13 +1,10 @@
 -- `dso::tlv::tlvs_fill` meets its contract: each step of the reader in turn.
-use mathlib.Core.Path.{sym, ◌∙◌}
-use Rattle.dso.proofs.Tlvs.{fills-next, fills-cut, fills-end}
+use Rattle.std.proofs.Common.{rules, tests}
+use mathlib.Core.Path.{refl}
+use Rattle.dso.proofs.Tlvs.{all-fill}
 use Rattle.dso.proofs.tlv.tlvs_fill.Goals as goal
 
-pub returns-then-is_err : goal.returns-then-is_err
-returns-then-is_err c = sym (c.loop-tlv.invariant ∙ fills-cut _ _ _ c.next.ensures.steps _ c.in-Some.is (sym c.is_err.ensures.value ∙ c.if-is_err.true))
-
-pub loop-tlv-preserved : goal.loop-tlv-preserved
-loop-tlv-preserved c = c.loop-tlv.invariant ∙ fills-next _ _ _ c.next.ensures.steps _ c.in-Some.is (sym c.is_err.ensures.value ∙ c.if-is_err.false)
-
 pub returns : goal.returns
-returns c = sym (c.loop-tlv.invariant ∙ fills-end _ _ _ c.next.ensures.steps c.in-None.is)
+returns c =
+    let ran = c.all.ensures.ran in
+    all-fill _ _ (λ x b q k. search (rules, tests)) _ _ _ _ _ ran.3.2 ran.5 ran.0 c.args.tlvs _ refl ran.3.1 ran.4
