@@ -1,22 +1,127 @@
 -- Laws of the removal that is chosen for a record, and of those that are sent.
-use Prim.Native.Nat.{ℕ, min, ◌+◌, ◌-◌, ◌≤◌, ◌<◌}
+use Prim.Native.Nat.{ℕ, suc, min, ◌+◌, ◌≤◌, ◌<◌}
 use mathlib.Core.Path.{◌≡◌, refl, sym, ap, ap₂, ◌∙◌}
-use mathlib.Core.Bool.{Bool, true, false, cond, not, ◌&&◌}
-use mathlib.Core.List.{List, [], ◌∷◌, ◌++◌, map, map-append, append-nil}
+use mathlib.Core.Bool.{Bool, true, false, cond, not, ◌&&◌, beq}
+use mathlib.Core.List.{List, [], ◌∷◌, ◌++◌, map, map-append}
 use native.Mathlib.Omega.{arith}
-use lib.Dec.{eqb}
-use lib.ListN.{length, take, drop}
-use Rattle.zone.specs.Lists.{only_if, any_of}
+use lib.ListN.{length, drop, get_or}
+use Rattle.std.specs.Prelude.{Option, Some, None}
+use Rattle.wire.specs.Name.{same_name}
+use Rattle.zone.specs.Lists.{only_if, any_of, all_of}
 use Rattle.zone.specs.Record.{Record, key_of}
 use Rattle.zone.specs.Batch.{max_records}
-use Rattle.zone.specs.Table.{records_of}
-use Rattle.zone.proofs.Lists.{any_of-of-map}
-use Rattle.push.specs.Change.{Removal, single, rrset, all_types, all_classes, covers, is_true}
+use Rattle.zone.specs.Table.{block_at, rec_of, records_of}
+use Rattle.zone.proofs.Lists.{beq-refl, any_of-of-map}
+use Rattle.zone.proofs.Memory.{no_record, length-records, records-at}
+use Rattle.push.specs.Change.{Removal, covers, is_true}
 use Rattle.push.specs.List.{single_at, rrset_at, all_types_at, all_classes_at, widest, alike, chosen, firsts}
 use Rattle.push.proofs.Covers.{at, is_true-at}
 use Rattle.push.proofs.Plains.{chosen-cases}
-use Rattle.notify.specs.Marks.{removal_at, kind_of, is_marked, first_mark, marked_by, marked, removal_of, is_head, kind_mark, heads, sent}
-use Rattle.notify.proofs.Marked.{zipped, Filling, filling-all, mark-none, mark-some}
+use Rattle.notify.specs.declared.removal.RemovalKind.{RemovalKind}
+use Rattle.notify.specs.declared.removal.RemovalKind.TheVariants.{Single, Rrset, AllTypes, AllClasses}
+use Rattle.notify.specs.Marks.{removal_at, kind_of, same_numbers, marked, told_apart, is_head, marked_kind, heads, sent}
+use Rattle.notify.proofs.Records.{records-end, records-next, marks-next}
+use Rattle.notify.proofs.Removals.{covers-split}
+
+-- ---- whether two removals cover the same of the marked records
+
+not-marked : (mark : Bool) → not mark ≡ true → mark ≡ false
+not-marked true h = sym h
+not-marked false h = refl
+
+is-marked : (mark : Bool) → not mark ≡ false → mark ≡ true
+is-marked true h = refl
+is-marked false h = sym h
+
+module _ (mark : Bool) (narrow wide : RemovalKind) (p : (narrow ≡ Single → ⊥) × (wide ≡ Single → ⊥)) (a b : Record) where
+  pub apart-unmarked : not mark ≡ true → false ≡ told_apart mark (removal_at narrow a) (removal_at wide a) (key_of b)
+  unfolding told_apart
+  apart-unmarked h = sym (ap (λ (x : Bool). x && not (beq (covers (removal_at narrow a) (key_of b)) (covers (removal_at wide a) (key_of b)))) (not-marked mark h))
+
+  module _ (h : not mark ≡ false) (t : Bool) (e : t ≡ same_numbers narrow a b) (u : Bool) (f : u ≡ same_numbers wide a b) where
+    by-numbers : told_apart mark (removal_at narrow a) (removal_at wide a) (key_of b)
+        ≡ not (beq (t && same_name a.owner b.owner) (u && same_name a.owner b.owner))
+    unfolding told_apart
+    by-numbers =
+        ap (λ (x : Bool). x && not (beq (covers (removal_at narrow a) (key_of b)) (covers (removal_at wide a) (key_of b)))) (is-marked mark h)
+        ∙ ap₂ (λ (x y : Bool). not (beq x y)) (covers-split narrow a b p.0) (covers-split wide a b p.1)
+        ∙ ap₂ (λ (x y : Bool). not (beq (x && same_name a.owner b.owner) (y && same_name a.owner b.owner))) (sym e) (sym f)
+
+    told : told_apart mark (removal_at narrow a) (removal_at wide a) (key_of b) ≡ (not (beq t u) && same_name a.owner b.owner)
+    told = by-numbers ∙ go t u (same_name a.owner b.owner)
+      where
+        go : (t u s : Bool) → not (beq (t && s) (u && s)) ≡ (not (beq t u) && s)
+        go true true s = ap not (beq-refl s)
+        go true false true = refl
+        go true false false = refl
+        go false true true = refl
+        go false true false = refl
+        go false false s = refl
+
+    pub apart-same : not (beq t u) ≡ false → not (beq t u) ≡ told_apart mark (removal_at narrow a) (removal_at wide a) (key_of b)
+    apart-same q = q ∙ sym (told ∙ ap (λ (x : Bool). x && same_name a.owner b.owner) q)
+
+    pub apart-named : not (beq t u) ≡ true → (x y : List ℕ) → x ≡ a.owner → y ≡ b.owner → (r : Bool) → r ≡ same_name x y
+        → r ≡ told_apart mark (removal_at narrow a) (removal_at wide a) (key_of b)
+    apart-named q x y c d r h = h ∙ ap₂ same_name c d ∙ sym (told ∙ ap (λ (x : Bool). x && same_name a.owner b.owner) q)
+
+-- None of the first i marked records tells two removals apart.
+pub record Agreed (m w : Removal) (ms : List Bool) (l : List Record) (i : ℕ) : Type 0 where
+  pub rest : alike (marked ms l) m w ≡ alike (marked (drop i ms) (drop i l)) m w
+
+pub agreed-none : (m w : Removal) (ms : List Bool) (l : List Record) → Agreed m w ms l 0
+agreed-none m w ms l = record { rest = refl }
+
+alike-cons : (m w : Removal) (b : Bool) (ms : List Bool) (r : Record) (l : List Record)
+    → alike (marked (b ∷ ms) (r ∷ l)) m w ≡ (not (told_apart b m w (key_of r)) && alike (marked ms l) m w)
+unfolding alike marked told_apart
+alike-cons m w true ms r l = go (beq (covers m (key_of r)) (covers w (key_of r)))
+  where
+    go : (e : Bool) → (e && all_of (λ (r : Record). beq (covers m (key_of r)) (covers w (key_of r))) (marked ms l))
+        ≡ (not (not e) && all_of (λ (r : Record). beq (covers m (key_of r)) (covers w (key_of r))) (marked ms l))
+    go true = refl
+    go false = refl
+alike-cons m w false ms r l = refl
+
+-- A removal covers what it covers.
+alike_self : (l : List Record) (m : Removal) → alike l m m ≡ true
+unfolding alike
+alike_self [] m = refl
+alike_self (x ∷ l) m = ap₂ (λ (p q : Bool). p && q) (beq-refl (covers m (key_of x))) (alike_self l m)
+
+pub alike_same : (l : List Record) (r : Record) (narrow wide : RemovalKind) → narrow ≡ wide → true ≡ alike l (removal_at narrow r) (removal_at wide r)
+alike_same l r narrow wide e =
+    sym (alike_self l (removal_at narrow r)) ∙ ap (λ (k : RemovalKind). alike l (removal_at narrow r) (removal_at k r)) e
+
+alike_end : (m w : Removal) (ms : List Bool) → alike (marked ms []) m w ≡ true
+unfolding alike marked
+alike_end m w [] = refl
+alike_end m w (b ∷ ms) = refl
+
+module _ (m w : Removal) (ms : List Bool) (long : length ms ≡ max_records) (count : ℕ) (a : List ℕ) (i : ℕ) (s : Agreed m w ms (records_of count a) i) (n : ℕ)
+    (e : n ≡ min count max_records) where
+  pub agreed-all : n ≤ i → true ≡ alike (marked ms (records_of count a)) m w
+  agreed-all h =
+      sym (s.rest ∙ ap (λ (l : List Record). alike (marked (drop i ms) l) m w) (records-end count a i n e h)
+      ∙ alike_end m w (drop i ms))
+
+  module _ (h : i < n) (b : List ℕ) (f : b ≡ block_at a i) (t : Bool) (g : t ≡ told_apart (get_or ms i false) m w (key_of (rec_of b))) where
+    left : Bool
+    left = alike (marked (drop (i + 1) ms) (drop (i + 1) (records_of count a))) m w
+
+    next-alike : alike (marked ms (records_of count a)) m w ≡ (not t && left)
+    unfolding left
+    next-alike =
+        s.rest ∙ ap₂ (λ (x : List Bool) (l : List Record). alike (marked x l) m w) (marks-next ms i false (omega arith)) (records-next count a i n e h b f)
+        ∙ alike-cons m w (get_or ms i false) (drop (i + 1) ms) (rec_of b) (drop (i + 1) (records_of count a))
+        ∙ ap (λ (x : Bool). not x && alike (marked (drop (i + 1) ms) (drop (i + 1) (records_of count a))) m w) (sym g)
+
+    pub agreed-not : t ≡ true → false ≡ alike (marked ms (records_of count a)) m w
+    agreed-not q = sym (next-alike ∙ ap (λ (x : Bool). not x && left) q)
+
+    pub agreed-turn : t ≡ false → Agreed m w ms (records_of count a) (i + 1)
+    unfolding left
+    agreed-turn q = record { rest = next-alike ∙ ap (λ (x : Bool). not x && left) q }
 
 -- ---- a removal at a record by its kind
 
@@ -38,131 +143,116 @@ chosen_at store gone r = chosen-cases (λ (m : Removal). removal_at (kind_of m) 
 -- ---- the choice
 
 -- The RRset is gone where the widest true removal is collective.
-set-gone : (store : List Record) (r : Record) → is_true store (rrset_at r) ≡ not (eqb (kind_of (widest store r)) 0)
+pub set-gone : (store : List Record) (r : Record) → (kind_of (widest store r) ≡ Single → is_true store (rrset_at r) ≡ false)
+    × ((kind_of (widest store r) ≡ Single → ⊥) → is_true store (rrset_at r) ≡ true)
 unfolding widest kind_of
 set-gone store r = go (is_true store (at 0 r)) refl (is_true store (at 1 r)) refl (is_true store (at 2 r)) refl
   where
+    kind : Bool → Bool → Bool → RemovalKind
+    kind x y z = kind_of (cond x (all_classes_at r) (cond y (all_types_at r) (cond z (rrset_at r) (single_at r))))
+
     go : (x : Bool) → is_true store (at 0 r) ≡ x → (y : Bool) → is_true store (at 1 r) ≡ y → (z : Bool) → is_true store (at 2 r) ≡ z
-        → z ≡ not (eqb (kind_of (cond x (all_classes_at r) (cond y (all_types_at r) (cond z (rrset_at r) (single_at r))))) 0)
-    go true p y q z u = sym u ∙ is_true-at store 0 2 r (omega arith) p
-    go false p true q z u = sym u ∙ is_true-at store 1 2 r (omega arith) q
-    go false p false q true u = refl
-    go false p false q false u = refl
+        → (kind x y z ≡ Single → z ≡ false) × ((kind x y z ≡ Single → ⊥) → z ≡ true)
+    go true p y q z u = ((λ e. absurd (cc)), λ _. sym u ∙ is_true-at store 0 2 r (omega arith) p)
+    go false p true q z u = ((λ e. absurd (cc)), λ _. sym u ∙ is_true-at store 1 2 r (omega arith) q)
+    go false p false q true u = ((λ e. absurd (cc)), λ _. refl)
+    go false p false q false u = ((λ _. refl), λ h. absurd (h refl))
 
-module _ (store gone : List Record) (r : Record) (w : ℕ) (f : w ≡ kind_of (widest store r)) where
-  gone-set : is_true store (rrset_at r) ≡ is_marked w
-  gone-set = set-gone store r ∙ ap is_marked (sym f)
-
-  pub chosen-single : w ≡ 0 → 0 ≡ kind_of (chosen store gone r)
+module _ (store gone : List Record) (r : Record) (w : RemovalKind) (f : w ≡ kind_of (widest store r)) where
+  pub chosen-single : w ≡ Single → Single ≡ kind_of (chosen store gone r)
   unfolding chosen kind_of
-  chosen-single g = rw (gone-set ∙ mark-none w g)
+  chosen-single g = rw ((set-gone store r).0 (sym f ∙ g))
 
   wide : removal_at w r ≡ widest store r
-  wide = ap (λ (k : ℕ). removal_at k r) f ∙ widest-at store r
+  wide = ap (λ (k : RemovalKind). removal_at k r) f ∙ widest-at store r
 
-  module _ (g : w ≡ 0 → ⊥) (u : Bool) (h : u ≡ alike gone (removal_at 1 r) (removal_at w r)) where
-    set-alike : alike gone (removal_at 1 r) (widest store r) ≡ u
-    set-alike = sym (h ∙ ap (alike gone (removal_at 1 r)) wide)
+  module _ (g : w ≡ Single → ⊥) (u : Bool) (h : u ≡ alike gone (removal_at Rrset r) (removal_at w r)) where
+    set : is_true store (rrset_at r) ≡ true
+    set = (set-gone store r).1 (λ e. g (f ∙ e))
 
-    pub chosen-set : u ≡ true → 1 ≡ kind_of (chosen store gone r)
+    set-alike : alike gone (removal_at Rrset r) (widest store r) ≡ u
+    set-alike = sym (h ∙ ap (alike gone (removal_at Rrset r)) wide)
+
+    pub chosen-set : u ≡ true → Rrset ≡ kind_of (chosen store gone r)
     unfolding chosen removal_at kind_of
-    chosen-set k = rw (gone-set ∙ mark-some w g, set-alike ∙ k)
+    chosen-set k = rw (set, set-alike ∙ k)
 
-    module _ (k : u ≡ false) (v : Bool) (i : v ≡ alike gone (removal_at 2 r) (removal_at w r)) where
-      types-alike : alike gone (removal_at 2 r) (widest store r) ≡ v
-      types-alike = sym (i ∙ ap (alike gone (removal_at 2 r)) wide)
+    module _ (k : u ≡ false) (v : Bool) (i : v ≡ alike gone (removal_at AllTypes r) (removal_at w r)) where
+      types-alike : alike gone (removal_at AllTypes r) (widest store r) ≡ v
+      types-alike = sym (i ∙ ap (alike gone (removal_at AllTypes r)) wide)
 
-      pub chosen-types : v ≡ true → 2 ≡ kind_of (chosen store gone r)
+      pub chosen-types : v ≡ true → AllTypes ≡ kind_of (chosen store gone r)
       unfolding chosen removal_at kind_of
-      chosen-types j = rw (gone-set ∙ mark-some w g, set-alike ∙ k, types-alike ∙ j)
+      chosen-types j = rw (set, set-alike ∙ k, types-alike ∙ j)
 
-      pub chosen-classes : v ≡ false → 3 ≡ kind_of (chosen store gone r)
+      pub chosen-classes : v ≡ false → AllClasses ≡ kind_of (chosen store gone r)
       unfolding chosen removal_at kind_of
-      chosen-classes j = rw (gone-set ∙ mark-some w g, set-alike ∙ k, types-alike ∙ j)
+      chosen-classes j = rw (set, set-alike ∙ k, types-alike ∙ j)
 
--- ---- its mark
+-- ---- all of them
 
-pub kind_fits : (m : Removal) (k : ℕ) → k ≡ kind_of m → k < 4
-unfolding kind_of
-kind_fits (single owner rrtype rrclass rdata) k e = omega arith
-kind_fits (rrset owner rrtype rrclass) k e = omega arith
-kind_fits (all_types owner rrclass) k e = omega arith
-kind_fits (all_classes owner) k e = omega arith
-
-module _ (store gone : List Record) (mark : ℕ) (r : Record) where
-  pub kind-unmarked : mark ≡ 0 → 0 ≡ kind_mark store gone mark r
-  unfolding kind_mark
-  kind-unmarked h = sym (ap (λ (b : Bool). cond b (kind_of (chosen store gone r) + 1) 0) (mark-none mark h))
-
-  pub kind-marked : (mark ≡ 0 → ⊥) → (k : ℕ) → k ≡ kind_of (chosen store gone r) → k + 1 ≡ kind_mark store gone mark r
-  unfolding kind_mark
-  kind-marked h k e =
-      ap (λ (j : ℕ). j + 1) e ∙ sym (ap (λ (b : Bool). cond b (kind_of (chosen store gone r) + 1) 0) (mark-some mark h))
-
--- ---- all marks
-
-heads-take : (earlier : List Removal) (ms : List ℕ) (l : List Record) → heads earlier (take (length l) ms) l ≡ heads earlier ms l
-unfolding heads
-heads-take earlier ms [] = refl
-heads-take earlier [] (r ∷ l) = refl
-heads-take earlier (m ∷ ms) (r ∷ l) =
-    ap (only_if (is_marked m && is_head earlier r) (removal_of m r)) (heads-take (earlier ++ only_if (is_marked m) (removal_of m r) []) ms l)
-
-module _ (f : Record → Removal) (k : Record → ℕ) (at : (r : Record) → removal_at (k r) r ≡ f r) where
-  step : ℕ → Record → ℕ
-  step m r = cond (is_marked m) (k r + 1) 0
-
-  named : (r : Record) → removal_of (k r + 1) r ≡ f r
-  named r = let e : k r + 1 - 1 ≡ k r = omega arith in ap (λ (j : ℕ). removal_at j r) e ∙ at r
+module _ (f : Record → Removal) (kind : Record → RemovalKind) (at : (r : Record) → removal_at (kind r) r ≡ f r) where
+  abbrev step : Bool → Record → Option RemovalKind
+  step m r = cond m (Some (kind r)) None
 
   -- A head of the code's list is one of the definition's.
-  one-head : (r : Record) (earlier : List Record) (m : ℕ) (rest : List Removal) → m ≡ k r + 1
-      → only_if (is_marked m && is_head (map f earlier) r) (removal_of m r) rest
+  one-head : (r : Record) (earlier : List Record) (rest : List Removal)
+      → only_if (is_head (map f earlier) r) (removal_at (kind r) r) rest
       ≡ only_if (not (any_of (λ (e : Record). covers (f e) (key_of r)) earlier)) (f r) rest
   unfolding is_head
-  one-head r earlier m rest e =
-      ap₂ (λ (b : Bool) (x : Removal). only_if (b && is_head (map f earlier) r) x rest)
-      (mark-some m (λ z. omega arith)) (ap (λ (j : ℕ). removal_of j r) e ∙ named r)
-      ∙ ap (λ (b : Bool). only_if (not b) (f r) rest) (any_of-of-map f (λ (e : Removal). covers e (key_of r)) earlier)
+  one-head r earlier rest =
+      ap₂ (λ (b : Bool) (x : Removal). only_if (not b) x rest) (any_of-of-map f (λ (e : Removal). covers e (key_of r)) earlier) (at r)
 
   map-only_if : (b : Bool) (r : Record) (l : List Record) → map f (only_if b r l) ≡ only_if b (f r) (map f l)
   map-only_if true r l = refl
   map-only_if false r l = refl
 
-  more : (r : Record) (earlier : List Record) (m : ℕ) → m ≡ k r + 1 → map f earlier ++ only_if (is_marked m) (removal_of m r) [] ≡ map f (earlier ++ (r ∷ []))
-  more r earlier m e =
-      ap₂ (λ (b : Bool) (x : Removal). map f earlier ++ only_if b x []) (mark-some m (λ z. omega arith)) (ap (λ (j : ℕ). removal_of j r) e ∙ named r)
-      ∙ sym (map-append f earlier (r ∷ []))
+  more : (r : Record) (earlier : List Record) → map f earlier ++ (removal_at (kind r) r ∷ []) ≡ map f (earlier ++ (r ∷ []))
+  more r earlier = ap (λ (x : Removal). map f earlier ++ (x ∷ [])) (at r) ∙ sym (map-append f earlier (r ∷ []))
 
-  heads-firsts : (earlier : List Record) (ms : List ℕ) (l : List Record)
-      → heads (map f earlier) (zipped step ms l) l ≡ map f (firsts f earlier (marked_by (λ (m : ℕ) (r : Record). r) ms l))
-  unfolding heads zipped firsts step
-  heads-firsts earlier ms [] = refl
-  heads-firsts earlier ms (r ∷ l) =
-      go (is_marked (first_mark ms)) (heads-firsts (earlier ++ (r ∷ [])) (drop 1 ms) l) (heads-firsts earlier (drop 1 ms) l)
+  heads-firsts : (ks : List (Option RemovalKind)) (ms : List Bool) (earlier l : List Record)
+      → ((k : ℕ) → k < length l → get_or ks k None ≡ step (get_or ms k false) (get_or l k no_record))
+      → heads (map f earlier) ks l ≡ map f (firsts f earlier (marked ms l))
+  unfolding heads firsts marked
+  heads-firsts [] [] earlier l h = refl
+  heads-firsts [] (m ∷ ms) earlier [] h = refl
+  heads-firsts [] (m ∷ ms) earlier (r ∷ l) h =
+      none m (h 0 (omega arith)) (heads-firsts [] ms earlier l (λ k j. h (suc k) (omega arith)))
     where
-      go : (b : Bool) → heads (map f (earlier ++ (r ∷ []))) (zipped step (drop 1 ms) l) l ≡ map f (firsts f (earlier ++ (r ∷ [])) (marked_by (λ (m : ℕ) (r : Record). r) (drop 1 ms) l))
-          → heads (map f earlier) (zipped step (drop 1 ms) l) l ≡ map f (firsts f earlier (marked_by (λ (m : ℕ) (r : Record). r) (drop 1 ms) l))
-          → heads (map f earlier) (cond b (k r + 1) 0 ∷ zipped step (drop 1 ms) l) (r ∷ l)
-          ≡ map f (firsts f earlier (only_if b r (marked_by (λ (m : ℕ) (r : Record). r) (drop 1 ms) l)))
-      go true p q =
-          one-head r earlier (k r + 1) (heads (map f earlier ++ only_if (is_marked (k r + 1)) (removal_of (k r + 1) r) []) (zipped step (drop 1 ms) l) l) refl
+      none : (m : Bool) → None ≡ step m r → [] ≡ map f (firsts f earlier (marked ms l)) → [] ≡ map f (firsts f earlier (only_if m r (marked ms l)))
+      none true e p = absurd (cc)
+      none false e p = p
+  heads-firsts (k ∷ ks) [] earlier [] h = refl
+  heads-firsts (k ∷ ks) [] earlier (r ∷ l) h =
+      ap (λ (o : Option RemovalKind). heads (map f earlier) (o ∷ ks) (r ∷ l)) (h 0 (omega arith))
+      ∙ heads-firsts ks [] earlier l (λ k j. h (suc k) (omega arith))
+  heads-firsts (k ∷ ks) (m ∷ ms) earlier [] h = refl
+  heads-firsts (k ∷ ks) (m ∷ ms) earlier (r ∷ l) h =
+      ap (λ (o : Option RemovalKind). heads (map f earlier) (o ∷ ks) (r ∷ l)) (h 0 (omega arith))
+      ∙ both m (heads-firsts ks ms (earlier ++ (r ∷ [])) l (λ k j. h (suc k) (omega arith))) (heads-firsts ks ms earlier l (λ k j. h (suc k) (omega arith)))
+    where
+      both : (m : Bool) → heads (map f (earlier ++ (r ∷ []))) ks l ≡ map f (firsts f (earlier ++ (r ∷ [])) (marked ms l))
+          → heads (map f earlier) ks l ≡ map f (firsts f earlier (marked ms l))
+          → heads (map f earlier) (step m r ∷ ks) (r ∷ l) ≡ map f (firsts f earlier (only_if m r (marked ms l)))
+      both true p q =
+          one-head r earlier (heads (map f earlier ++ (removal_at (kind r) r ∷ [])) ks l)
           ∙ ap (only_if (not (any_of (λ (e : Record). covers (f e) (key_of r)) earlier)) (f r))
-          (ap (λ (x : List Removal). heads x (zipped step (drop 1 ms) l) l) (more r earlier (k r + 1) refl) ∙ p)
-          ∙ sym (map-only_if (not (any_of (λ (e : Record). covers (f e) (key_of r)) earlier)) r
-          (firsts f (earlier ++ (r ∷ [])) (marked_by (λ (m : ℕ) (r : Record). r) (drop 1 ms) l)))
-      go false p q = ap (λ (x : List Removal). heads x (zipped step (drop 1 ms) l) l) (append-nil (map f earlier)) ∙ q
+          (ap (λ (x : List Removal). heads x ks l) (more r earlier) ∙ p)
+          ∙ sym (map-only_if (not (any_of (λ (e : Record). covers (f e) (key_of r)) earlier)) r (firsts f (earlier ++ (r ∷ [])) (marked ms l)))
+      both false p q = q
 
-heads-sent : (store : List Record) (ms : List ℕ) (l : List Record)
-    → heads [] (zipped (kind_mark store (marked ms l)) ms l) l ≡ sent store (marked ms l)
-unfolding kind_mark marked step
-heads-sent store ms l =
-    heads-firsts (chosen store (marked ms l)) (λ (r : Record). kind_of (chosen store (marked ms l) r)) (chosen_at store (marked ms l)) [] ms l
+heads-sent : (store : List Record) (ks : List (Option RemovalKind)) (ms : List Bool) (l : List Record)
+    → ((k : ℕ) → k < length l → get_or ks k None ≡ marked_kind store (marked ms l) (get_or ms k false) (get_or l k no_record))
+    → heads [] ks l ≡ sent store (marked ms l)
+unfolding marked_kind
+heads-sent store ks ms l h =
+    heads-firsts (chosen store (marked ms l)) (λ (r : Record). kind_of (chosen store (marked ms l) r)) (chosen_at store (marked ms l)) ks ms [] l h
 
-pub choosing-all : (store : List Record) (ms : List ℕ) (count : ℕ) (a m : List ℕ) (i n : ℕ) → n ≡ min count max_records → n ≤ i
-    → Filling (kind_mark store (marked ms (records_of count a))) ms (records_of count a) m i
-    → heads [] m (records_of count a) ≡ sent store (marked ms (records_of count a))
-choosing-all store ms count a m i n e h s =
-    let l : List Record = records_of count a in
-    sym (heads-take [] m l) ∙ ap (λ (k : List ℕ). heads [] k l) (filling-all (kind_mark store (marked ms l)) ms count a m i s n e h)
-    ∙ heads-sent store ms l
+pub choosing : (store : List Record) (ms : List Bool) (count : ℕ) (a : List ℕ) (ks : List (Option RemovalKind))
+    → ((k : ℕ) → k < min count max_records
+    → get_or ks k None ≡ marked_kind store (marked ms (records_of count a)) (get_or ms k false) (rec_of (block_at a k)))
+    → heads [] ks (records_of count a) ≡ sent store (marked ms (records_of count a))
+choosing store ms count a ks h = heads-sent store ks ms (records_of count a)
+    (λ k j.
+    let i : k < min count max_records = omega (arith, length-records count a) in
+    h k i ∙ sym (ap (marked_kind store (marked ms (records_of count a)) (get_or ms k false)) (records-at count a k i)))

@@ -1,128 +1,206 @@
--- Laws of the removals that are sent: those of records that no earlier removal covers.
-use Prim.Native.Nat.{ℕ, min, ◌+◌, ◌-◌, ◌*◌, ◌≤◌, ◌<◌}
-use mathlib.Core.Path.{◌≡◌, refl, sym, ap, ap₂, ◌∙◌}
-use mathlib.Core.Bool.{Bool, true, false, not, ◌&&◌}
-use mathlib.Core.List.{List, [], ◌∷◌, append-nil}
-use native.Mathlib.Numerals.{add-one}
+-- Laws of what is sent: the removals of records that no earlier removal covers, and the additions.
+use Prim.Native.Nat.{ℕ, zero, suc, min, ◌+◌, ◌*◌, ◌≤◌, ◌<◌}
+use mathlib.Core.Path.{◌≡◌, refl, sym, ap, ap₂, subst, ◌∙◌}
+use mathlib.Core.Bool.{Bool, true, false, not, ◌||◌}
+use mathlib.Core.List.{List, [], ◌∷◌, ◌++◌, map, append_assoc, append-nil}
 use native.Mathlib.Omega.{arith}
-use lib.ListN.{length, take, drop, get_or, length-take, drop_of_length-le}
-use lib.Seq.{drop-cons, drop-drop, get_or-take, length-take-le}
+use lib.ListN.{length, take, get_or}
+use lib.Seq.{sets, get_or-take, length-take-le}
+use borrow.Author.Count.{below_more}
+use Rattle.std.specs.Prelude.{Option, Some, None}
 use Rattle.zone.specs.Lists.{only_if, any_of}
 use Rattle.zone.specs.Record.{Record, key_of}
 use Rattle.zone.specs.Layout.{record_octets}
 use Rattle.zone.specs.Batch.{max_records}
-use Rattle.zone.specs.Table.{block_size, block_at, rec_of, records_of}
+use Rattle.zone.specs.Table.{block_at, rec_of, records_of}
 use Rattle.zone.proofs.Memory.{no_record, length-records, records-at}
-use Rattle.push.specs.Change.{Removal, removal, covers, fields_of}
+use Rattle.push.specs.Change.{Removal, Change, addition, removal, covers, fields_of}
+use Rattle.push.specs.List.{additions}
 use Rattle.push.specs.Octets.{changes_octets}
-use Rattle.notify.specs.Marks.{removal_at, is_marked, first_mark, marked_by, removal_of, removals_of, is_head, mark_covers, head_at}
-use Rattle.notify.specs.Written.{Step, room}
-use Rattle.notify.proofs.Marked.{mark-none, mark-some, mark-at}
-use Rattle.notify.proofs.Writing.{nothing_written, stepped}
-
--- ---- a block is short
-
-pub block-short : (a : List ℕ) (i : ℕ) (b : List ℕ) → b ≡ block_at a i → length b ≤ block_size
-block-short a i b e = omega (arith, ap length e, length-take block_size (drop (i * block_size) a))
+use Rattle.notify.specs.declared.removal.RemovalKind.{RemovalKind}
+use Rattle.notify.specs.declared.removal.RemovalKind.TheVariants.{Single, Rrset, AllTypes, AllClasses}
+use Rattle.notify.specs.declared.fields.Fields.{Fields}
+use Rattle.notify.specs.Marks.{removal_at, marked, removals_of, is_head, heads, kind_covers, head_at, addition_at}
+use Rattle.notify.specs.Written.{Gives, Short, Step, WroteEach, given_octets, all_octets, record_in, room}
+use Rattle.notify.proofs.Writing.{short-block}
 
 -- ---- the removals of earlier records
 
-module _ (mark : ℕ) (e b : Record) where
-  pub covers-unmarked : mark ≡ 0 → false ≡ mark_covers mark e b
-  unfolding mark_covers
-  covers-unmarked h = sym (ap (λ (x : Bool). x && covers (removal_of mark e) (key_of b)) (mark-none mark h))
+is_head-all : (ks : List (Option RemovalKind)) (l : List Record) (r : Record)
+    → ((k : ℕ) → k < length l → kind_covers (get_or ks k None) (get_or l k no_record) r ≡ false) → is_head (removals_of ks l) r ≡ true
+unfolding is_head removals_of kind_covers
+is_head-all [] l r h = refl
+is_head-all (k ∷ ks) [] r h = refl
+is_head-all (None ∷ ks) (e ∷ l) r h = is_head-all ks l r (λ k j. h (suc k) (omega arith))
+is_head-all (Some kind ∷ ks) (e ∷ l) r h =
+    ap (λ (b : Bool). not (b || any_of (λ (m : Removal). covers m (key_of r)) (removals_of ks l))) (h 0 (omega arith))
+    ∙ is_head-all ks l r (λ k j. h (suc k) (omega arith))
 
-  pub covers-marked : (mark ≡ 0 → ⊥) → (t : Bool) → t ≡ covers (removal_at (mark - 1) e) (key_of b) → t ≡ mark_covers mark e b
-  unfolding mark_covers
-  covers-marked h t f = f ∙ sym (ap (λ (x : Bool). x && covers (removal_of mark e) (key_of b)) (mark-some mark h))
-
-is_head-nil : (r : Record) → is_head [] r ≡ true
-unfolding is_head
-is_head-nil r = refl
-
-is_head-cons : (ms : List ℕ) (e : Record) (l : List Record) (r : Record)
-    → is_head (removals_of ms (e ∷ l)) r ≡ (not (mark_covers (first_mark ms) e r) && is_head (removals_of (drop 1 ms) l) r)
-unfolding is_head removals_of mark_covers
-is_head-cons ms e l r = go (is_marked (first_mark ms)) (covers (removal_of (first_mark ms) e) (key_of r)) refl
+is_head-not : (ks : List (Option RemovalKind)) (l : List Record) (r : Record) (k : ℕ) → k < length l
+    → kind_covers (get_or ks k None) (get_or l k no_record) r ≡ true → is_head (removals_of ks l) r ≡ false
+unfolding is_head removals_of kind_covers
+is_head-not [] l r k j h = absurd (cc)
+is_head-not (k' ∷ ks) [] r k j h = absurd (omega arith)
+is_head-not (None ∷ ks) (e ∷ l) r zero j h = absurd (cc)
+is_head-not (None ∷ ks) (e ∷ l) r (suc k) j h = is_head-not ks l r k (omega arith) h
+is_head-not (Some kind ∷ ks) (e ∷ l) r zero j h =
+    ap (λ (b : Bool). not (b || any_of (λ (m : Removal). covers m (key_of r)) (removals_of ks l))) h
+is_head-not (Some kind ∷ ks) (e ∷ l) r (suc k) j h = go (covers (removal_at kind e) (key_of r)) (is_head-not ks l r k (omega arith) h)
   where
-    go : (b c : Bool) → covers (removal_of (first_mark ms) e) (key_of r) ≡ c
-        → not (any_of (λ (m : Removal). covers m (key_of r)) (only_if b (removal_of (first_mark ms) e) (marked_by removal_of (drop 1 ms) l)))
-        ≡ (not (b && c) && not (any_of (λ (m : Removal). covers m (key_of r)) (marked_by removal_of (drop 1 ms) l)))
-    go true true h = rw h
-    go true false h = rw h
-    go false c h = refl
+    go : (b : Bool) → not (any_of (λ (m : Removal). covers m (key_of r)) (removals_of ks l)) ≡ false
+        → not (b || any_of (λ (m : Removal). covers m (key_of r)) (removals_of ks l)) ≡ false
+    go true p = refl
+    go false p = p
 
--- None of the first j records of a list has a removal that covers r.
-pub record First (ms : List ℕ) (l : List Record) (r : Record) (j : ℕ) : Type 0 where
-  pub rest : is_head (removals_of ms l) r ≡ is_head (removals_of (drop j ms) (drop j l)) r
-
-pub first-none : (ms : List ℕ) (l : List Record) (r : Record) → First ms l r 0
-first-none ms l r = record { rest = refl }
-
-module _ (ms : List ℕ) (count : ℕ) (a : List ℕ) (i : ℕ) (b : List ℕ) (j : ℕ)
-    (s : First ms (take i (records_of count a)) (rec_of b) j) (k : i < min count max_records) (z : b ≡ block_at a i) where
-  shown : is_head (removals_of ms (take i (records_of count a))) (rec_of b) ≡ is_head (removals_of ms (take i (records_of count a))) (rec_of (block_at a i))
-  shown = ap (λ (x : List ℕ). is_head (removals_of ms (take i (records_of count a))) (rec_of x)) z
+module _ (ks : List (Option RemovalKind)) (count : ℕ) (a : List ℕ) (i : ℕ) (h : i < min count max_records) where
+  at : (k : ℕ) → k < i → get_or (take i (records_of count a)) k no_record ≡ rec_of (block_at a k)
+  at k j = get_or-take i (records_of count a) k no_record j ∙ records-at count a k (omega arith)
 
   long : length (take i (records_of count a)) ≡ i
   long = length-take-le i (records_of count a) (omega (arith, length-records count a))
 
-  pub first-all : i ≤ j → true ≡ is_head (removals_of ms (take i (records_of count a))) (rec_of (block_at a i))
-  unfolding removals_of
-  first-all h =
-      let e : drop j (take i (records_of count a)) ≡ [] = drop_of_length-le (take i (records_of count a)) {i = j} (omega (arith, long)) in
-      sym (sym shown ∙ s.rest ∙ ap (λ (l : List Record). is_head (removals_of (drop j ms) l) (rec_of b)) e ∙ is_head-nil (rec_of b))
+  module _ (b : List ℕ) (z : b ≡ block_at a i) where
+    shown : is_head (removals_of ks (take i (records_of count a))) (rec_of b) ≡ is_head (removals_of ks (take i (records_of count a))) (rec_of (block_at a i))
+    shown = ap (λ (x : List ℕ). is_head (removals_of ks (take i (records_of count a))) (rec_of x)) z
 
-  module _ (h : j < i) (x : List ℕ) (f : x ≡ block_at a j) (t : Bool) (g : t ≡ mark_covers (get_or ms j 0) (rec_of x) (rec_of b)) where
-    left : Bool
-    left = is_head (removals_of (drop (j + 1) ms) (drop (j + 1) (take i (records_of count a)))) (rec_of b)
+    pub first-all : (n : ℕ) → i ≤ n → ((k : ℕ) → k < n → kind_covers (get_or ks k None) (rec_of (block_at a k)) (rec_of b) ≡ false)
+        → true ≡ is_head (removals_of ks (take i (records_of count a))) (rec_of (block_at a i))
+    first-all n m g = sym (sym shown ∙ is_head-all ks (take i (records_of count a)) (rec_of b)
+        (λ k j. let k' : k < i = omega (arith, long) in ap (λ (e : Record). kind_covers (get_or ks k None) e (rec_of b)) (at k k') ∙ g k (omega arith)))
 
-    next : is_head (removals_of ms (take i (records_of count a))) (rec_of b) ≡ (not t && left)
-    unfolding left
-    next =
-        let l : List Record = take i (records_of count a) in
-        let q : get_or l j no_record ≡ rec_of x = get_or-take i (records_of count a) j no_record h ∙ records-at count a j (omega arith) ∙ ap rec_of (sym f) in
-        let d : drop j l ≡ rec_of x ∷ drop (j + 1) l =
-        drop-cons l j no_record (omega (arith, long)) ∙ ap₂ (λ (r : Record) (n : ℕ). r ∷ drop n l) q (sym (add-one j)) in
-        s.rest ∙ ap (λ (m : List Record). is_head (removals_of (drop j ms) m) (rec_of b)) d
-        ∙ is_head-cons (drop j ms) (rec_of x) (drop (j + 1) l) (rec_of b)
-        ∙ ap₂ (λ (u : Bool) (y : List ℕ). not u && is_head (removals_of y (drop (j + 1) l)) (rec_of b))
-        (ap (λ (m : ℕ). mark_covers m (rec_of x) (rec_of b)) (mark-at ms j) ∙ sym g) (drop-drop 1 j ms)
+    pub first-not : (k : ℕ) → k < i → (e : List ℕ) → e ≡ block_at a k → (t : Bool) → t ≡ kind_covers (get_or ks k None) (rec_of e) (rec_of b) → t ≡ true
+        → false ≡ is_head (removals_of ks (take i (records_of count a))) (rec_of (block_at a i))
+    first-not k j e y t g q = sym (sym shown ∙ is_head-not ks (take i (records_of count a)) (rec_of b) k (omega (arith, long))
+        (ap (λ (r : Record). kind_covers (get_or ks k None) r (rec_of b)) (at k j ∙ ap rec_of (sym y)) ∙ sym g ∙ q))
 
-    pub first-not : t ≡ true → false ≡ is_head (removals_of ms (take i (records_of count a))) (rec_of (block_at a i))
-    first-not q = sym (sym shown ∙ next ∙ ap (λ (u : Bool). not u && left) q)
+    pub first-turn : (n : ℕ) → ((k : ℕ) → k < n → kind_covers (get_or ks k None) (rec_of (block_at a k)) (rec_of b) ≡ false)
+        → (e : List ℕ) → e ≡ block_at a n → (t : Bool) → t ≡ kind_covers (get_or ks n None) (rec_of e) (rec_of b) → t ≡ false
+        → (k : ℕ) → k < n + 1 → kind_covers (get_or ks k None) (rec_of (block_at a k)) (rec_of b) ≡ false
+    first-turn n g e y t f q = below_more (λ (k : ℕ). kind_covers (get_or ks k None) (rec_of (block_at a k)) (rec_of b) ≡ false) n g
+        (ap (λ (x : List ℕ). kind_covers (get_or ks n None) (rec_of x) (rec_of b)) (sym y) ∙ sym f ∙ q)
 
-    pub first-turn : t ≡ false → First ms (take i (records_of count a)) (rec_of b) (j + 1)
-    unfolding left
-    first-turn q = record { rest = next ∙ ap (λ (u : Bool). not u && left) q }
+-- ---- one change
 
--- ---- one removal
+short-removal : (kind : RemovalKind) (r : Record) → Short r → Short (fields_of (removal (removal_at kind r)))
+unfolding fields_of removal_at
+short-removal Single r s = record { owner = s.owner; rdata = s.rdata }
+short-removal Rrset r s = record { owner = s.owner; rdata = omega arith }
+short-removal AllTypes r s = record { owner = s.owner; rdata = omega arith }
+short-removal AllClasses r s = record { owner = s.owner; rdata = omega arith }
 
-module _ (o : List ℕ) (at : ℕ) (earlier : List Removal) (mark : ℕ) (r : Record) where
-  no-head : (is_marked mark && is_head earlier r) ≡ false → changes_octets (head_at earlier mark r) ≡ []
+module _ (earlier : List Removal) (k : Option RemovalKind) (a : List ℕ) (i : ℕ) where
+  pub gives-none : k ≡ None → Gives (head_at earlier k (rec_of (block_at a i))) None
   unfolding head_at changes_octets
-  no-head h = ap (λ (x : Bool). changes_octets (only_if x (removal (removal_of mark r)) [])) h
+  gives-none h = rw h (record { octets = refl; short = tt })
 
-  pub head-unmarked : mark ≡ 0 → Step room o at (changes_octets (head_at earlier mark r)) o at
-  head-unmarked h = nothing_written o at (changes_octets (head_at earlier mark r)) (no-head (ap (λ (x : Bool). x && is_head earlier r) (mark-none mark h)))
-
-  module _ (h : mark ≡ 0 → ⊥) (t : Bool) (e : t ≡ is_head earlier r) where
-    both : (is_marked mark && is_head earlier r) ≡ t
-    both = ap (λ (x : Bool). x && is_head earlier r) (mark-some mark h) ∙ sym e
-
-    pub head-covered : t ≡ false → Step room o at (changes_octets (head_at earlier mark r)) o at
-    head-covered g = nothing_written o at (changes_octets (head_at earlier mark r)) (no-head (both ∙ g))
-
-    one-head : t ≡ true → changes_octets (head_at earlier mark r) ≡ record_octets (fields_of (removal (removal_at (mark - 1) r)))
+  module _ (kind : RemovalKind) (h : k ≡ Some kind) (t : Bool) (e : t ≡ is_head earlier (rec_of (block_at a i))) where
+    pub gives-covered : t ≡ false → Gives (head_at earlier k (rec_of (block_at a i))) None
     unfolding head_at changes_octets
-    one-head g = ap (λ (x : Bool). changes_octets (only_if x (removal (removal_of mark r)) [])) (both ∙ g)
-        ∙ append-nil (record_octets (fields_of (removal (removal_at (mark - 1) r))))
+    gives-covered g = rw (h, sym e ∙ g) (record { octets = refl; short = tt })
 
-pub head-written : (o : List ℕ) (at : ℕ) (earlier : List Removal) (mark : ℕ) (a : List ℕ) (i : ℕ) → (mark ≡ 0 → ⊥) → (t : Bool)
-    → t ≡ is_head earlier (rec_of (block_at a i)) → t ≡ true → (b : List ℕ) → b ≡ block_at a i → (p : List ℕ) (u : ℕ)
-    → Step room o at (record_octets (fields_of (removal (removal_at (mark - 1) (rec_of b))))) p u
-    → Step room o at (changes_octets (head_at earlier mark (rec_of (block_at a i)))) p u
-head-written o at earlier mark a i h t e g b f p u s =
-    stepped o at (record_octets (fields_of (removal (removal_at (mark - 1) (rec_of b))))) (changes_octets (head_at earlier mark (rec_of (block_at a i)))) p u
-    (ap (λ (x : List ℕ). record_octets (fields_of (removal (removal_at (mark - 1) (rec_of x))))) f
-    ∙ sym (one-head o at earlier mark (rec_of (block_at a i)) h t e g)) s
+    pub gives-head : t ≡ true → (b : List ℕ) → b ≡ block_at a i → (f : Fields) → record_in f ≡ fields_of (removal (removal_at kind (rec_of b)))
+        → Gives (head_at earlier k (rec_of (block_at a i))) (Some f)
+    unfolding head_at changes_octets
+    gives-head g b p f q =
+        let z : record_in f ≡ fields_of (removal (removal_at kind (rec_of (block_at a i)))) =
+        q ∙ ap (λ (x : List ℕ). fields_of (removal (removal_at kind (rec_of x)))) p in
+        rw (h, sym e ∙ g) (record {
+          octets = ap record_octets z ∙ sym (append-nil (record_octets (fields_of (removal (removal_at kind (rec_of (block_at a i)))))));
+          short = subst Short (sym z) (short-removal kind (rec_of (block_at a i)) (short-block a i));
+        })
+
+module _ (mark : Bool) (a : List ℕ) (i : ℕ) where
+  pub gives-unmarked : mark ≡ false → Gives (addition_at mark (rec_of (block_at a i))) None
+  unfolding addition_at changes_octets
+  gives-unmarked h = rw h (record { octets = refl; short = tt })
+
+  pub gives-marked : mark ≡ true → (b : List ℕ) → b ≡ block_at a i → (f : Fields) → record_in f ≡ rec_of b
+      → Gives (addition_at mark (rec_of (block_at a i))) (Some f)
+  unfolding addition_at changes_octets fields_of
+  gives-marked h b p f q =
+      let z : record_in f ≡ rec_of (block_at a i) = q ∙ ap rec_of p in
+      rw h (record { octets = ap record_octets z ∙ sym (append-nil (record_octets (rec_of (block_at a i)))); short = subst Short (sym z) (short-block a i) })
+
+-- ---- all of them
+
+pub changes-append : (a b : List Change) → changes_octets (a ++ b) ≡ changes_octets a ++ changes_octets b
+unfolding changes_octets
+changes-append [] b = refl
+changes-append (c ∷ a) b =
+    ap (λ (l : List ℕ). record_octets (fields_of c) ++ l) (changes-append a b)
+    ∙ sym (append_assoc (record_octets (fields_of c)) (changes_octets a) (changes_octets b))
+
+-- One more at the front, where a test holds.
+one_more : {A : Type 0} (f : A → Change) (b : Bool) (x : A) (l : List A)
+    → changes_octets (map f (only_if b x l)) ≡ changes_octets (only_if b (f x) []) ++ changes_octets (map f l)
+one_more f true x l = changes-append (f x ∷ []) (map f l)
+one_more f false x l = unfold changes_octets in refl
+
+heads-octets : (os : List (Option Fields)) (ks : List (Option RemovalKind)) (earlier : List Removal) (l : List Record) → length os ≡ length l
+    → ((i : ℕ) → i < length l → given_octets (get_or os i None)
+    ≡ changes_octets (head_at (earlier ++ removals_of ks (take i l)) (get_or ks i None) (get_or l i no_record)))
+    → all_octets os ≡ changes_octets (map removal (heads earlier ks l))
+unfolding heads removals_of head_at changes_octets
+heads-octets [] [] earlier [] e h = refl
+heads-octets [] (k ∷ ks) earlier [] e h = refl
+heads-octets [] ks earlier (r ∷ l) e h = absurd (omega arith)
+heads-octets (o ∷ os) ks earlier [] e h = absurd (omega arith)
+heads-octets (o ∷ os) [] earlier (r ∷ l) e h =
+    ap₂ (λ (x y : List ℕ). x ++ y) (h 0 (omega arith)) (heads-octets os [] earlier l (omega arith) (λ i j. h (suc i) (omega arith)))
+heads-octets (o ∷ os) (None ∷ ks) earlier (r ∷ l) e h =
+    ap₂ (λ (x y : List ℕ). x ++ y) (h 0 (omega arith)) (heads-octets os ks earlier l (omega arith) (λ i j. h (suc i) (omega arith)))
+heads-octets (o ∷ os) (Some kind ∷ ks) earlier (r ∷ l) e h =
+    let m : Removal = removal_at kind r in
+    ap₂ (λ (x y : List ℕ). x ++ y) (h 0 (omega arith) ∙ ap (λ (x : List Removal). changes_octets (head_at x (Some kind) r)) (append-nil earlier))
+    (heads-octets os ks (earlier ++ (m ∷ [])) l (omega arith)
+    (λ i j. h (suc i) (omega arith) ∙ ap (λ (x : List Removal). changes_octets (head_at x (get_or ks i None) (get_or l i no_record)))
+    (sym (append_assoc earlier (m ∷ []) (removals_of ks (take i l))))))
+    ∙ sym (one_more removal (is_head earlier r) m (heads (earlier ++ (m ∷ [])) ks l))
+
+additions-octets : (os : List (Option Fields)) (ms : List Bool) (l : List Record) → length os ≡ length l
+    → ((i : ℕ) → i < length l → given_octets (get_or os i None) ≡ changes_octets (addition_at (get_or ms i false) (get_or l i no_record)))
+    → all_octets os ≡ changes_octets (additions (marked ms l))
+unfolding marked additions addition_at changes_octets
+additions-octets [] [] [] e h = refl
+additions-octets [] (m ∷ ms) [] e h = refl
+additions-octets [] ms (r ∷ l) e h = absurd (omega arith)
+additions-octets (o ∷ os) ms [] e h = absurd (omega arith)
+additions-octets (o ∷ os) [] (r ∷ l) e h =
+    ap₂ (λ (x y : List ℕ). x ++ y) (h 0 (omega arith)) (additions-octets os [] l (omega arith) (λ i j. h (suc i) (omega arith)))
+additions-octets (o ∷ os) (m ∷ ms) (r ∷ l) e h =
+    ap₂ (λ (x y : List ℕ). x ++ y) (h 0 (omega arith)) (additions-octets os ms l (omega arith) (λ i j. h (suc i) (omega arith)))
+    ∙ sym (one_more addition m r (marked ms l))
+
+module _ (count : ℕ) (a o : List ℕ) (from : ℕ) (p : List ℕ) (t : ℕ) where
+  -- What was written for each record of a store.
+  each-written : (says : ℕ → Option Fields → Type 0) (w : WroteEach says (min count max_records) o from p t) (x : List ℕ) → all_octets w.changes ≡ x
+      → Step (room * max_records) o from x p t
+  each-written says w x e = record {
+    wrote = record { written = w.wrote.written ∙ ap (sets o from) e; place = w.wrote.place ∙ ap (λ (y : List ℕ). from + length y) e };
+    near = omega (arith, w.near);
+  }
+
+  abbrev gives_head : List (Option RemovalKind) → ℕ → Option Fields → Type 0
+  gives_head ks i c = Gives (head_at (removals_of ks (take i (records_of count a))) (get_or ks i None) (rec_of (block_at a i))) c
+
+  pub removals-written : (ks : List (Option RemovalKind)) (says : ℕ → Option Fields → Type 0)
+      → ((i : ℕ) (c : Option Fields) → i < min count max_records → says i c → gives_head ks i c)
+      → WroteEach says (min count max_records) o from p t
+      → Step (room * max_records) o from (changes_octets (map removal (heads [] ks (records_of count a)))) p t
+  removals-written ks says h w = each-written says w (changes_octets (map removal (heads [] ks (records_of count a))))
+      (heads-octets w.changes ks [] (records_of count a) (w.many ∙ sym (length-records count a))
+      (λ i j.
+      let k : i < min count max_records = omega (arith, length-records count a) in
+      (h i (get_or w.changes i None) k (w.each i k)).octets
+      ∙ ap (λ (r : Record). changes_octets (head_at (removals_of ks (take i (records_of count a))) (get_or ks i None) r)) (sym (records-at count a i k))))
+
+  pub additions-written : (ms : List Bool) (says : ℕ → Option Fields → Type 0)
+      → ((i : ℕ) (c : Option Fields) → i < min count max_records → says i c → Gives (addition_at (get_or ms i false) (rec_of (block_at a i))) c)
+      → WroteEach says (min count max_records) o from p t
+      → Step (room * max_records) o from (changes_octets (additions (marked ms (records_of count a)))) p t
+  additions-written ms says h w = each-written says w (changes_octets (additions (marked ms (records_of count a))))
+      (additions-octets w.changes ms (records_of count a) (w.many ∙ sym (length-records count a))
+      (λ i j.
+      let k : i < min count max_records = omega (arith, length-records count a) in
+      (h i (get_or w.changes i None) k (w.each i k)).octets
+      ∙ ap (λ (r : Record). changes_octets (addition_at (get_or ms i false) r)) (sym (records-at count a i k))))

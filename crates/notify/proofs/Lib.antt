@@ -6,5 +6,4 @@ pub mod Lookups
 pub mod Choices
 pub mod Writing
 pub mod Heads
-pub mod Sending
 pub mod Messages

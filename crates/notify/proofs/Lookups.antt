@@ -7,7 +7,8 @@ use mathlib.Core.Option.{Option, none, some}
 use native.Mathlib.Numerals.{one-add}
 use native.Mathlib.Omega.{arith}
 use lib.ListN.{length, take, drop, get_or, take-append-drop}
-use lib.Dec.{eqb}
+use lib.Dec.{eqb, ltb}
+use borrow.Author.Tests.{le-ltb}
 use Rattle.wire.specs.Name.{lowered, same_octets, same_name, after}
 use Rattle.dso.specs.Match.{asks_for}
 use Rattle.zone.specs.Lists.{any_of}
@@ -15,7 +16,7 @@ use Rattle.zone.specs.Record.{Record, Key, key_of, same_key}
 use Rattle.zone.specs.Store.{find, held, is_some}
 use Rattle.zone.specs.Match.{Subscription, matches_key, matches, wanted}
 use Rattle.zone.specs.Batch.{max_records}
-use Rattle.zone.specs.Table.{block_at, rec_of, records_of, key_from, index_of, found_at}
+use Rattle.zone.specs.Table.{block_at, rec_of, records_of, index_of, found_at}
 use Rattle.zone.specs.declared.records.Found.{Found}
 use Rattle.zone.specs.declared.records.Found.TheVariants.{At, Nothing}
 use Rattle.zone.proofs.Lists.{any_of-append}
@@ -23,17 +24,9 @@ use Rattle.zone.proofs.Stores.{none-held, held_cons, held-any_of}
 use Rattle.zone.proofs.Memory.{no_record, length-records, records-at}
 use Rattle.session.specs.Table.{subscription, record_asked}
 use Rattle.push.specs.List.{has_ttl}
-use Rattle.notify.specs.Marks.{is_marked, bit, bit_unless}
 use Rattle.notify.proofs.Records.{records-end, records-next}
-use Rattle.notify.proofs.Marked.{mark-none, mark-some}
 
 -- ---- in a store
-
-pub find-in : (r : Record) (o : List ℕ) (t c : ℕ) (d : List ℕ) (l : List Record) (f : Found) → o ≡ r.owner → t ≡ r.rrtype → c ≡ r.rrclass
-    → d ≡ r.rdata → f ≡ found_at (index_of (key_from o t c d) l) → f ≡ found_at (index_of (key_of r) l)
-find-in r o t c d l f p q u v e =
-    let w : key_from o t c d ≡ key_of r = λ i. record { owner = lowered (p i); rrtype = q i; rrclass = u i; rdata = v i } in
-    e ∙ ap (λ (k : Key). found_at (index_of k l)) w
 
 held-nil : (k : Key) → held k [] ≡ false
 held-nil k = none-held k [] (unfold find in refl)
@@ -49,16 +42,16 @@ held-part k n i l e =
     ∙ ap (λ (b : Bool). any_of p (take i l) || b) g ∙ or-true (any_of p (take i l))
 
 module _ (k : Key) (count : ℕ) (a : List ℕ) (i n : ℕ) (e : n ≡ min count max_records) where
-  pub stands-past : n ≤ i → false ≡ held k (take 1 (drop i (records_of count a)))
-  stands-past h = sym (ap (λ (l : List Record). held k (take 1 l)) (records-end count a i n e h) ∙ held-nil k)
+  pub stands-past : n ≤ i → ltb i n ≡ held k (take 1 (drop i (records_of count a)))
+  stands-past h = le-ltb i n h ∙ sym (ap (λ (l : List Record). held k (take 1 l)) (records-end count a i n e h) ∙ held-nil k)
 
   pub stands_here : i < n → (b : List ℕ) → b ≡ block_at a i → (t : Bool) → t ≡ same_key (key_of (rec_of b)) k → t ≡ held k (take 1 (drop i (records_of count a)))
   stands_here h b f t g =
       g ∙ sym (ap (λ (l : List Record). held k (take 1 l)) (records-next count a i n e h b f) ∙ held_cons k (rec_of b) []
       ∙ ap (λ (x : Bool). same_key (key_of (rec_of b)) k || x) (held-nil k) ∙ or-false (same_key (key_of (rec_of b)) k))
 
-pub held-there : (k : Key) (i : ℕ) (l : List Record) (t : Bool) → t ≡ held k (take 1 (drop i l)) → t ≡ true → true ≡ held k l
-held-there k i l t e h = sym (held-part k 1 i l (sym e ∙ h))
+pub held-there : (k : Key) (i : ℕ) (l : List Record) (t : Bool) → t ≡ held k (take 1 (drop i l)) → t ≡ true → t ≡ held k l
+held-there k i l t e h = h ∙ sym (held-part k 1 i l (sym e ∙ h))
 
 ttl_at : Option ℕ → List Record → Option ℕ
 ttl_at none l = none
@@ -151,42 +144,9 @@ module _ (name : List ℕ) (t c : ℕ) (r : Record) (x y : ℕ) (p : x ≡ r.rrt
   asked = match-split (subscription 0 name t c) r
       ∙ ap (λ (b : Bool). b && same_name name r.owner) (sym (e ∙ ap₂ (asks_for t c) p q))
 
-  pub match-not : v ≡ false → 0 ≡ bit (matches (subscription 0 name t c) r)
-  unfolding bit
-  match-not h = sym (ap bit (asked ∙ ap (λ (b : Bool). b && same_name name r.owner) h))
+  pub match-not : v ≡ false → v ≡ matches (subscription 0 name t c) r
+  match-not h = h ∙ sym (asked ∙ ap (λ (b : Bool). b && same_name name r.owner) h)
 
-  module _ (h : v ≡ true) (o : List ℕ) (f : o ≡ r.owner) (w : Bool) (g : w ≡ same_name name o) where
-    named : matches (subscription 0 name t c) r ≡ w
-    named = asked ∙ ap (λ (b : Bool). b && same_name name r.owner) h ∙ sym (g ∙ ap (same_name name) f)
-
-    pub match-name : w ≡ true → 1 ≡ bit (matches (subscription 0 name t c) r)
-    unfolding bit
-    match-name k = sym (ap bit (named ∙ k))
-
-    pub match-other : w ≡ false → 0 ≡ bit (matches (subscription 0 name t c) r)
-    unfolding bit
-    match-other k = sym (ap bit (named ∙ k))
-
--- ---- a mark
-
-pub unless-true : (t : Bool) → t ≡ true → 0 ≡ bit_unless t
-unfolding bit bit_unless
-unless-true t h = sym (ap bit_unless h)
-
-pub unless-false : (t : Bool) → t ≡ false → 1 ≡ bit_unless t
-unfolding bit bit_unless
-unless-false t h = sym (ap bit_unless h)
-
-module _ (mark : ℕ) (x : Bool) where
-  pub visible-unmarked : mark ≡ 0 → 0 ≡ bit (is_marked mark && x)
-  unfolding bit
-  visible-unmarked h = sym (ap (λ (b : Bool). bit (b && x)) (mark-none mark h))
-
-  module _ (h : mark ≡ 0 → ⊥) (t : Bool) (e : t ≡ x) where
-    pub visible-wanted : t ≡ true → 1 ≡ bit (is_marked mark && x)
-    unfolding bit
-    visible-wanted g = sym (ap₂ (λ (a b : Bool). bit (a && b)) (mark-some mark h) (sym e ∙ g))
-
-    pub visible-not : t ≡ false → 0 ≡ bit (is_marked mark && x)
-    unfolding bit
-    visible-not g = sym (ap₂ (λ (a b : Bool). bit (a && b)) (mark-some mark h) (sym e ∙ g))
+  pub match-name : v ≡ true → (o : List ℕ) → o ≡ r.owner → (w : Bool) → w ≡ same_name name o → w ≡ matches (subscription 0 name t c) r
+  match-name h o f w g =
+      g ∙ ap (same_name name) f ∙ sym (asked ∙ ap (λ (b : Bool). b && same_name name r.owner) h)

@@ -1,5 +1,5 @@
 -- Laws of whole PUSH messages: the front written last, the list of changes by the marks, and views.
-use Prim.Native.Nat.{ℕ, min, ◌+◌, ◌-◌, ◌%◌, ◌≤◌, ◌<◌}
+use Prim.Native.Nat.{ℕ, min, ◌+◌, ◌-◌, ◌≤◌, ◌<◌}
 use mathlib.Core.Path.{◌≡◌, refl, sym, ap, ap₂, ◌∙◌}
 use mathlib.Core.Bool.{Bool, true, false, cond, not, ◌&&◌, and_comm}
 use mathlib.Core.List.{List, [], ◌∷◌, ◌++◌, map, append_assoc, append-nil}
@@ -9,7 +9,6 @@ use lib.ListN.{length, take, drop, length-append}
 use lib.Seq.{sets}
 use borrow.Author.Tests.{eq-eqb, ne_eqb}
 use Rattle.wire.specs.Field.{octets}
-use Rattle.wire.proofs.Fields.{octets-mod}
 use Rattle.wire.proofs.Writes.{sets-append, sets-front-last, sets-lent-rest, sets-out}
 use Rattle.dso.specs.Judge.{push_type}
 use Rattle.dso.specs.Response.{header, tlv_octets, tlvs_octets, framed}
@@ -27,9 +26,11 @@ use Rattle.push.specs.Measure.{bytes}
 use Rattle.push.specs.Octets.{changes_octets, unidirectional_flags, push_message, push_octets, push_of}
 use Rattle.push.proofs.ReadBack.{length-changes_octets}
 use Rattle.push.proofs.Framing.{length-push_message, length-push_octets, push_of-nil, push_of-cons}
+use Rattle.std.specs.Prelude.{Option as Maybe}
+use Rattle.notify.specs.declared.removal.RemovalKind.{RemovalKind}
 use Rattle.notify.specs.Marks.{marked, heads, sent, changes_for}
 use Rattle.notify.specs.Written.{Wrote, front_length, front, fronted, counted, Fronted, Step, Pushed}
-use Rattle.notify.proofs.Sending.{changes-append}
+use Rattle.notify.proofs.Heads.{changes-append}
 
 -- ---- the front
 
@@ -46,8 +47,8 @@ unfolding header octets
 prefix-length n id flags = refl
 
 pub finish-some : (o p q : List ℕ) (end : ℕ) → front_length ≤ end → (end ≡ front_length → ⊥)
-    → p ≡ sets o 0 (octets 2 ((end - 2) % 65536) ++ header 0 unidirectional_flags)
-    → q ≡ sets p 14 (octets 2 push_type ++ octets 2 ((end - front_length) % 65536))
+    → p ≡ sets o 0 (octets 2 (end - 2) ++ header 0 unidirectional_flags)
+    → q ≡ sets p 14 (octets 2 push_type ++ octets 2 (end - front_length))
     → Fronted o end q end
 unfolding fronted counted front
 finish-some o p q end h k e f =
@@ -55,11 +56,8 @@ finish-some o p q end h k e f =
     let m : end - 2 ≡ 16 + n = omega arith in
     let x : List ℕ = octets 2 (16 + n) ++ header 0 unidirectional_flags in
     let y : List ℕ = octets 2 push_type ++ octets 2 n in
-    let e' : p ≡ sets o 0 x =
-    e ∙ ap (λ (l : List ℕ). sets o 0 (l ++ header 0 unidirectional_flags)) (octets-mod 2 (end - 2) ∙ ap (octets 2) m) in
-    let f' : q ≡ sets p 14 y = f ∙ ap (λ (l : List ℕ). sets p 14 (octets 2 push_type ++ l)) (octets-mod 2 n) in
     record {
-      written = sets_then o p q 0 14 x y (prefix-length (16 + n) 0 unidirectional_flags) e' f'
+      written = sets_then o p q 0 14 x y (prefix-length (16 + n) 0 unidirectional_flags) (e ∙ ap (λ (j : ℕ). sets o 0 (octets 2 j ++ header 0 unidirectional_flags)) m) f
           ∙ sym (ap (λ (b : Bool). sets o 0 (cond b [] (front n))) (ne_eqb end front_length k));
       count = sym (ap (λ (b : Bool). cond b 0 end) (ne_eqb end front_length k));
     }
@@ -127,12 +125,12 @@ pub push-written : (o : List ℕ) (cs : List Change) (p : List ℕ) (end : ℕ) 
 push-written o [] p end w q r f = push-none o p end q r f (rw no-changes at w)
 push-written o (c ∷ cs) p end w q r f = push-some o p end q r f c cs w
 
-module _ (most : ℕ) (o : List ℕ) (a b : List Change) (p q : List ℕ) (m end : ℕ) (w : Step most o front_length (changes_octets a) p m) (v : Wrote p m (changes_octets b) q end) where
+module _ (most : ℕ) (o : List ℕ) (a b : List Change) (p q : List ℕ) (m end : ℕ) (w : Step most o front_length (changes_octets a) p m) (v : Step most p m (changes_octets b) q end) where
   both-written : Wrote o front_length (changes_octets (a ++ b)) q end
   both-written = record {
-    written = v.written ∙ ap₂ (λ (l : List ℕ) (k : ℕ). sets l k (changes_octets b)) w.wrote.written w.wrote.place
+    written = v.wrote.written ∙ ap₂ (λ (l : List ℕ) (k : ℕ). sets l k (changes_octets b)) w.wrote.written w.wrote.place
         ∙ sym (ap (sets o front_length) (changes-append a b) ∙ sets-append o front_length (changes_octets a) (changes_octets b));
-    place = omega (arith, w.wrote.place, v.place, length-append (changes_octets a) (changes_octets b), ap length (changes-append a b));
+    place = omega (arith, w.wrote.place, v.wrote.place, length-append (changes_octets a) (changes_octets b), ap length (changes-append a b));
   }
 
   pub changes-written : (x : List ℕ) (r : ℕ) → Fronted q end x r → Pushed o (a ++ b) x r
@@ -183,11 +181,7 @@ sent-removals : (store gone : List Record) → map removal (sent store gone) ≡
 unfolding removals
 sent-removals store gone = map-map (chosen store gone) (firsts (chosen store gone) [] gone)
 
-pub marks-sent : (gone kinds : List ℕ) (old new seen : List Record) → marked gone old ≡ seen
-    → heads [] kinds old ≡ sent new (marked gone old) → heads [] kinds old ≡ sent new seen
-marks-sent gone kinds old new seen e f = f ∙ ap (sent new) e
-
-pub push-sent : (subs : List Subscription) (old new : List Record) (gone fresh kinds added : List ℕ) (o p : List ℕ) (r : ℕ)
+pub push-sent : (subs : List Subscription) (old new : List Record) (gone fresh : List Bool) (kinds : List (Maybe RemovalKind)) (added : List Bool) (o p : List ℕ) (r : ℕ)
     → heads [] kinds old ≡ sent new (view subs (marked gone old)) → marked added new ≡ view subs (marked fresh new)
     → Pushed o (map removal (heads [] kinds old) ++ additions (marked added new)) p r
     → Pushed o (changes_for subs new (marked gone old) (marked fresh new)) p r
@@ -208,7 +202,7 @@ lesser-place o at from vs e = go (lib.Dec.leb (length o) at) refl
     go false h = let k : at < length o = borrow.Author.Tests.leb-false (length o) at h in
         let z : from ≡ at = omega arith in ap (λ (j : ℕ). sets o j vs) z
 
-pub first-sent : (marks : List ℕ) (l : List Record) (p : Record → Bool) (o : List ℕ) (at from : ℕ) (q : List ℕ) (r : ℕ)
+pub first-sent : (marks : List Bool) (l : List Record) (p : Record → Bool) (o : List ℕ) (at from : ℕ) (q : List ℕ) (r : ℕ)
     → marked marks l ≡ keep p l → from ≡ min at (length o)
     → Pushed (take (length o - from) (drop from o)) (additions (marked marks l)) q r
     → (take from o ++ (q ++ drop (length o - from) (drop from o)) ≡ sets o at (push_of (additions (keep p l)))) × (r ≡ length (push_of (additions (keep p l))))

@@ -2,9 +2,10 @@
 #![tactic(auto)]
 
 mod choice;
+mod fields;
 mod marks;
 mod message;
 mod removal;
 
 pub use marks::{Marks, arrived, departed};
-pub use message::{write_first, write_push};
+pub use message::{Change, write_first, write_push};

@@ -1,12 +1,8 @@
 -- `notify::choice::alike` meets its contract. The loop's invariant: none of the first `i` marked records tells the two apart. Assumes nothing.
-use Prim.Native.Nat.{◌-◌}
-use Rattle.zone.specs.Table.{rec_of, records_of}
+use Rattle.zone.specs.Table.{rec_of, records_in}
 use Rattle.notify.specs.Marks.{removal_at}
-use Rattle.notify.proofs.Marked.{Agreed}
+use Rattle.notify.proofs.Choices.{Agreed}
 use Rattle.notify.proofs.choice.alike.Given as goal
 
 abbrev pub invariant-loop-i : goal.invariant-loop-i
-invariant-loop-i l = Agreed (removal_at l.narrow (rec_of l.a)) (removal_at l.wide (rec_of l.a)) l.gone (records_of l.count l.old) l.i
-
-abbrev pub decreases-loop-i : goal.decreases-loop-i
-decreases-loop-i l = l.n - l.i
+invariant-loop-i l = Agreed (removal_at l.narrow (rec_of l.a)) (removal_at l.wide (rec_of l.a)) l.gone (records_in l.old) l.i

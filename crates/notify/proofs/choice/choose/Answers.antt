@@ -1,14 +1,10 @@
 -- `notify::choice::choose` meets its contract. Assumes nothing.
-use mathlib.Core.Path.{refl}
-use Rattle.notify.proofs.Marked.{filling-none, filling-turn}
-use Rattle.notify.proofs.Choices.{choosing-all}
+use Rattle.std.proofs.Common.{arith}
+use Rattle.std.proofs.lemmas.Grind.{common_steps}
+use Rattle.notify.specs.Marks.{marked_kind}
+use Rattle.notify.proofs.Choices.{choosing}
 use Rattle.notify.proofs.choice.choose.Goals as goal
 
-pub loop-i-init : goal.loop-i-init
-loop-i-init c = filling-none _ _ _ _ refl
-
-pub loop-i-preserved : goal.loop-i-preserved
-loop-i-preserved c = search filling-turn
-
 pub returns : goal.returns
-returns c = search choosing-all
+unfolding marked_kind
+returns c = choosing _ _ _ _ _ (λ k h. let e = c.for_each.ensures k h in grind (arith, common_steps))

@@ -1,12 +1,12 @@
 -- `notify::choice::tells_apart` meets its contract. Assumes nothing.
-use Rattle.notify.proofs.Marked.{apart-unmarked, apart-same, apart-named}
+use Rattle.notify.proofs.Choices.{apart-unmarked, apart-same, apart-named}
 use Rattle.notify.proofs.choice.tells_apart.Goals as goal
 
-pub returns-then-mark-eq0 : goal.returns-then-mark-eq0
-returns-then-mark-eq0 c = search apart-unmarked
+pub returns-then-not-mark : goal.returns-then-not-mark
+returns-then-not-mark c = search apart-unmarked
 
 pub returns-then-same_numbers : goal.returns-then-same_numbers
-returns-then-same_numbers c = search apart-same
+returns-then-same_numbers c = search apart-named
 
-pub returns : goal.returns
-returns c = search apart-named
+pub returns-else-same_numbers : goal.returns-else-same_numbers
+returns-else-same_numbers c = search apart-same

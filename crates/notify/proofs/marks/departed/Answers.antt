@@ -1,13 +1,15 @@
 -- `notify::marks::departed` meets its contract. Assumes nothing.
-use mathlib.Core.Path.{refl}
-use Rattle.notify.proofs.Marked.{filling-none, unless-turn, unless-all}
+use Rattle.std.proofs.Common.{arith, rules}
+use Rattle.notify.proofs.Marked.{marked-more, marked-by}
 use Rattle.notify.proofs.marks.departed.Goals as goal
-
-pub loop-i-init : goal.loop-i-init
-loop-i-init c = filling-none _ _ _ _ refl
+use Rattle.notify.proofs.marks.departed.Goals.{then-held, else-held}
 
 pub loop-i-preserved : goal.loop-i-preserved
-loop-i-preserved c = search unless-turn
+loop-i-preserved c = record {
+  near = elim c.if-held.branch [ then-held w ↦ omega arith | else-held w ↦ omega arith ];
+  long = search rules;
+  done = marked-more _ _ _ _ (omega arith) (search rules) c.loop-i.invariant.done;
+}
 
 pub returns : goal.returns
-returns c = search unless-all
+returns c = marked-by _ _ _ _ (λ k h. search rules)

@@ -8,5 +8,5 @@ returns-then-stands_at c = search held-there
 pub returns-in-At : goal.returns-in-At
 returns-in-At c = search held_found
 
-pub returns-in-Nothing : goal.returns-in-Nothing
-returns-in-Nothing c = search held-nothing
+pub returns-in_default : goal.returns-in_default
+returns-in_default c = search held-nothing

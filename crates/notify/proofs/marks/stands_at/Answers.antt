@@ -5,5 +5,5 @@ use Rattle.notify.proofs.marks.stands_at.Goals as goal
 pub returns-then-place-clamped : goal.returns-then-place-clamped
 returns-then-place-clamped c = search stands_here
 
-pub returns : goal.returns
-returns c = search stands-past
+pub returns-else-place-clamped : goal.returns-else-place-clamped
+returns-else-place-clamped c = search stands-past

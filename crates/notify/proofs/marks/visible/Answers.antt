@@ -1,13 +1,7 @@
 -- `notify::marks::visible` meets its contract. Assumes nothing.
-use mathlib.Core.Path.{refl}
-use Rattle.notify.proofs.Marked.{filling-none, filling-turn, among-all}
+use Rattle.std.proofs.Common.{rules}
+use Rattle.notify.proofs.Marked.{marked-by_among}
 use Rattle.notify.proofs.marks.visible.Goals as goal
 
-pub loop-i-init : goal.loop-i-init
-loop-i-init c = filling-none _ _ _ _ refl
-
-pub loop-i-preserved : goal.loop-i-preserved
-loop-i-preserved c = search filling-turn
-
 pub returns : goal.returns
-returns c = search among-all
+returns c = marked-by_among _ _ _ _ _ (λ k h. let e = c.for_each.ensures k h in search rules)

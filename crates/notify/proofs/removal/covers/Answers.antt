@@ -2,11 +2,11 @@
 use Rattle.notify.proofs.Removals.{covers-single, covers-names, covers-not}
 use Rattle.notify.proofs.removal.covers.Goals as goal
 
-pub returns-then-kind-eq-SINGLE : goal.returns-then-kind-eq-SINGLE
-returns-then-kind-eq-SINGLE c = search covers-single
+pub returns-in-Single : goal.returns-in-Single
+returns-in-Single c = search covers-single
 
 pub returns-then-same_numbers : goal.returns-then-same_numbers
 returns-then-same_numbers c = search covers-names
 
-pub returns : goal.returns
-returns c = search covers-not
+pub returns-else-same_numbers : goal.returns-else-same_numbers
+returns-else-same_numbers c = search covers-not
