@@ -4,6 +4,8 @@ use mathlib.Core.Path.{◌≡◌, refl, sym, ap, ap₂, ◌∙◌}
 use mathlib.Core.Bool.{Bool, true, false, cond, ◌&&◌, ◌||◌, and_comm, or-true, or-false}
 use mathlib.Core.List.{List, [], ◌∷◌}
 use mathlib.Core.Option.{Option, none, some}
+use Rattle.std.specs.Prelude.{Option as Maybe, None, Some}
+use Rattle.std.specs.Option.{is_some as is_found}
 use native.Mathlib.Numerals.{one-add}
 use native.Mathlib.Omega.{arith}
 use lib.ListN.{length, take, drop, get_or, take-append-drop}
@@ -16,9 +18,7 @@ use Rattle.zone.specs.Record.{Record, Key, key_of, same_key}
 use Rattle.zone.specs.Store.{find, held, is_some}
 use Rattle.zone.specs.Match.{Subscription, matches_key, matches, wanted}
 use Rattle.zone.specs.Batch.{max_records}
-use Rattle.zone.specs.Table.{block_at, rec_of, records_of, index_of, found_at}
-use Rattle.zone.specs.declared.records.Found.{Found}
-use Rattle.zone.specs.declared.records.Found.TheVariants.{At, Nothing}
+use Rattle.zone.specs.Table.{block_at, rec_of, records_of, index_of}
 use Rattle.zone.proofs.Lists.{any_of-append}
 use Rattle.zone.proofs.Stores.{none-held, held_cons, held-any_of}
 use Rattle.zone.proofs.Memory.{no_record, length-records, records-at}
@@ -45,17 +45,19 @@ module _ (k : Key) (count : ℕ) (a : List ℕ) (i n : ℕ) (e : n ≡ min count
   pub stands-past : n ≤ i → ltb i n ≡ held k (take 1 (drop i (records_of count a)))
   stands-past h = le-ltb i n h ∙ sym (ap (λ (l : List Record). held k (take 1 l)) (records-end count a i n e h) ∙ held-nil k)
 
-  pub stands_here : i < n → (b : List ℕ) → b ≡ block_at a i → (t : Bool) → t ≡ same_key (key_of (rec_of b)) k → t ≡ held k (take 1 (drop i (records_of count a)))
-  stands_here h b f t g =
-      g ∙ sym (ap (λ (l : List Record). held k (take 1 l)) (records-next count a i n e h b f) ∙ held_cons k (rec_of b) []
-      ∙ ap (λ (x : Bool). same_key (key_of (rec_of b)) k || x) (held-nil k) ∙ or-false (same_key (key_of (rec_of b)) k))
+  pub stands_here : i < n → (b : List ℕ) → b ≡ block_at a i → (x : Key) → x ≡ k → (t : Bool) → t ≡ same_key (key_of (rec_of b)) x
+      → t ≡ held k (take 1 (drop i (records_of count a)))
+  stands_here h b f x p t g =
+      g ∙ ap (same_key (key_of (rec_of b))) p
+      ∙ sym (ap (λ (l : List Record). held k (take 1 l)) (records-next count a i n e h b f) ∙ held_cons k (rec_of b) []
+      ∙ ap (λ (y : Bool). same_key (key_of (rec_of b)) k || y) (held-nil k) ∙ or-false (same_key (key_of (rec_of b)) k))
 
 pub held-there : (k : Key) (i : ℕ) (l : List Record) (t : Bool) → t ≡ held k (take 1 (drop i l)) → t ≡ true → t ≡ held k l
 held-there k i l t e h = h ∙ sym (held-part k 1 i l (sym e ∙ h))
 
-ttl_at : Option ℕ → List Record → Option ℕ
-ttl_at none l = none
-ttl_at (some i) l = some (get_or l i no_record).ttl
+ttl_at : Maybe ℕ → List Record → Option ℕ
+ttl_at None l = none
+ttl_at (Some i) l = some (get_or l i no_record).ttl
 
 -- What is found is the TTL of the first record with the key.
 find-index : (k : Key) (l : List Record) → find k l ≡ ttl_at (index_of k l) l
@@ -63,58 +65,51 @@ unfolding find index_of ttl_at
 find-index k [] = refl
 find-index k (r ∷ l) = go (same_key (key_of r) k) (index_of k l) (find-index k l)
   where
-    go : (b : Bool) (o : Option ℕ) → find k l ≡ ttl_at o l
-        → cond b (some r.ttl) (find k l) ≡ ttl_at (cond b (some 0) (after 1 o)) (r ∷ l)
+    go : (b : Bool) (o : Maybe ℕ) → find k l ≡ ttl_at o l
+        → cond b (some r.ttl) (find k l) ≡ ttl_at (cond b (Some 0) (after 1 o)) (r ∷ l)
     go true o h = refl
-    go false none h = h
-    go false (some i) h = h ∙ sym (ap (λ (j : ℕ). some (get_or (r ∷ l) j no_record).ttl) (one-add i))
+    go false None h = h
+    go false (Some i) h = h ∙ sym (ap (λ (j : ℕ). some (get_or (r ∷ l) j no_record).ttl) (one-add i))
 
-index-lt : (k : Key) (l : List Record) (i : ℕ) → index_of k l ≡ some i → i < length l
+index-lt : (k : Key) (l : List Record) (i : ℕ) → index_of k l ≡ Some i → i < length l
 unfolding index_of
-index-lt k [] i h = absurd (let z : ◌≡◌ {A = ℕ} 0 1 = cc in omega arith)
+index-lt k [] i h = absurd (cc)
 index-lt k (r ∷ l) i h = go (same_key (key_of r) k) (index_of k l) (λ j. index-lt k l j) h
   where
-    go : (b : Bool) (o : Option ℕ) → ((j : ℕ) → o ≡ some j → j < length l) → cond b (some 0) (after 1 o) ≡ some i → i < suc (length l)
+    go : (b : Bool) (o : Maybe ℕ) → ((j : ℕ) → o ≡ Some j → j < length l) → cond b (Some 0) (after 1 o) ≡ Some i → i < suc (length l)
     go true o e h = let z : 0 ≡ i = cc in omega arith
-    go false none e h = absurd (let z : ◌≡◌ {A = ℕ} 0 1 = cc in omega arith)
-    go false (some j) e h = let z : 1 + j ≡ i = cc in omega (arith, e j refl)
+    go false None e h = absurd (cc)
+    go false (Some j) e h = let z : 1 + j ≡ i = cc in omega (arith, e j refl)
 
-at-index : (o : Option ℕ) (f : Found) (i : ℕ) → f ≡ found_at o → f ≡ At i → o ≡ some i
-at-index none f i e h = absurd (let z : ◌≡◌ {A = ℕ} 0 1 = cc in omega arith)
-at-index (some j) f i e h = cc
+module _ (k : Key) (count : ℕ) (a : List ℕ) (x : Key) (p : x ≡ k) (o : Maybe ℕ) (e : o ≡ index_of x (records_of count a)) where
+  at-index : o ≡ index_of k (records_of count a)
+  at-index = e ∙ ap (λ (y : Key). index_of y (records_of count a)) p
 
-no_index : (o : Option ℕ) (f : Found) → f ≡ found_at o → f ≡ Nothing → o ≡ none
-no_index none f e h = refl
-no_index (some j) f e h = absurd (let z : ◌≡◌ {A = ℕ} 0 1 = cc in omega arith)
-
-module _ (k : Key) (count : ℕ) (a : List ℕ) (f : Found) (e : f ≡ found_at (index_of k (records_of count a))) where
-  none_found : f ≡ Nothing → find k (records_of count a) ≡ none
+  none_found : o ≡ None → find k (records_of count a) ≡ none
   unfolding ttl_at
-  none_found h =
-      find-index k (records_of count a) ∙ ap (λ (o : Option ℕ). ttl_at o (records_of count a)) (no_index (index_of k (records_of count a)) f e h)
+  none_found h = find-index k (records_of count a) ∙ ap (λ (j : Maybe ℕ). ttl_at j (records_of count a)) (sym at-index ∙ h)
 
-  some-found : (i : ℕ) → f ≡ At i → find k (records_of count a) ≡ some (rec_of (block_at a i)).ttl
+  some-found : (i : ℕ) → o ≡ Some i → find k (records_of count a) ≡ some (rec_of (block_at a i)).ttl
   unfolding ttl_at
   some-found i h =
       let l : List Record = records_of count a in
-      let o : index_of k l ≡ some i = at-index (index_of k l) f i e h in
-      let b : i < min count max_records = omega (arith, index-lt k l i o, length-records count a) in
-      find-index k l ∙ ap (λ (o : Option ℕ). ttl_at o l) o ∙ ap (λ (r : Record). some r.ttl) (records-at count a i b)
+      let b : i < min count max_records = omega (arith, index-lt k l i (sym at-index ∙ h), length-records count a) in
+      find-index k l ∙ ap (λ (j : Maybe ℕ). ttl_at j l) (sym at-index ∙ h) ∙ ap (λ (r : Record). some r.ttl) (records-at count a i b)
 
-  pub held_found : (i : ℕ) → f ≡ At i → true ≡ held k (records_of count a)
+  pub held-found : (t : Bool) → t ≡ is_found o → t ≡ held k (records_of count a)
   unfolding held
-  held_found i h = sym (ap is_some (some-found i h))
+  held-found t h = h ∙ go o refl
+    where
+      go : (j : Maybe ℕ) → o ≡ j → is_found j ≡ is_some (find k (records_of count a))
+      go None g = sym (ap is_some (none_found g))
+      go (Some i) g = sym (ap is_some (some-found i g))
 
-  pub held-nothing : f ≡ Nothing → false ≡ held k (records_of count a)
-  unfolding held
-  held-nothing h = sym (ap is_some (none_found h))
+  pub ttl-nothing : o ≡ None → (t : ℕ) → false ≡ has_ttl (find k (records_of count a)) t
+  ttl-nothing h t = sym (ap (λ (j : Option ℕ). has_ttl j t) (none_found h))
 
-  pub ttl-nothing : f ≡ Nothing → (t : ℕ) → false ≡ has_ttl (find k (records_of count a)) t
-  ttl-nothing h t = sym (ap (λ (o : Option ℕ). has_ttl o t) (none_found h))
-
-  pub ttl-found : (i : ℕ) → f ≡ At i → (b : List ℕ) → b ≡ block_at a i → (x t u : ℕ) → x ≡ (rec_of b).ttl → u ≡ t → eqb x u ≡ has_ttl (find k (records_of count a)) t
+  pub ttl-found : (i : ℕ) → o ≡ Some i → (b : List ℕ) → b ≡ block_at a i → (x t u : ℕ) → x ≡ (rec_of b).ttl → u ≡ t → eqb x u ≡ has_ttl (find k (records_of count a)) t
   ttl-found i h b g x t u p q =
-      ap₂ eqb (p ∙ ap (λ (c : List ℕ). (rec_of c).ttl) g) q ∙ sym (ap (λ (o : Option ℕ). has_ttl o t) (some-found i h))
+      ap₂ eqb (p ∙ ap (λ (c : List ℕ). (rec_of c).ttl) g) q ∙ sym (ap (λ (j : Option ℕ). has_ttl j t) (some-found i h))
 
 -- ---- in the subscriptions, and in one
 

@@ -48,16 +48,18 @@ prefix-length n id flags = refl
 
 pub finish-some : (o p q : List ℕ) (end : ℕ) → front_length ≤ end → (end ≡ front_length → ⊥)
     → p ≡ sets o 0 (octets 2 (end - 2) ++ header 0 unidirectional_flags)
-    → q ≡ sets p 14 (octets 2 push_type ++ octets 2 (end - front_length))
+    → (kind : ℕ) → kind ≡ push_type → q ≡ sets p 14 (octets 2 kind ++ octets 2 (end - front_length))
     → Fronted o end q end
 unfolding fronted counted front
-finish-some o p q end h k e f =
+finish-some o p q end h k e kind t f =
     let n : ℕ = end - front_length in
     let m : end - 2 ≡ 16 + n = omega arith in
     let x : List ℕ = octets 2 (16 + n) ++ header 0 unidirectional_flags in
-    let y : List ℕ = octets 2 push_type ++ octets 2 n in
+    let y' : List ℕ = octets 2 n in
+    let y : List ℕ = octets 2 push_type ++ y' in
     record {
-      written = sets_then o p q 0 14 x y (prefix-length (16 + n) 0 unidirectional_flags) (e ∙ ap (λ (j : ℕ). sets o 0 (octets 2 j ++ header 0 unidirectional_flags)) m) f
+      written = sets_then o p q 0 14 x y (prefix-length (16 + n) 0 unidirectional_flags) (e ∙ ap (λ (j : ℕ). sets o 0 (octets 2 j ++ header 0 unidirectional_flags)) m)
+          (f ∙ ap (λ (j : ℕ). sets p 14 (octets 2 j ++ y')) t)
           ∙ sym (ap (λ (b : Bool). sets o 0 (cond b [] (front n))) (ne_eqb end front_length k));
       count = sym (ap (λ (b : Bool). cond b 0 end) (ne_eqb end front_length k));
     }

@@ -10,7 +10,7 @@ use lib.ListN.{drop}
 use lib.Dec.{eqb}
 use Rattle.wire.specs.Name.{lowered, same_octets, same_name}
 use Rattle.zone.specs.Lists.{any_of}
-use Rattle.zone.specs.Record.{Record, key_of, same_key}
+use Rattle.zone.specs.Record.{Record, Key, key_of, same_key}
 use Rattle.zone.specs.Batch.{max_records}
 use Rattle.zone.specs.Table.{block_at, rec_of, records_of}
 use Rattle.zone.proofs.Lists.{clash, never, not-or}
@@ -55,9 +55,9 @@ covers-split AllTypes a b h = and_comm (same_octets (lowered a.owner) (lowered b
 covers-split AllClasses a b h = refl
 
 module _ (k : RemovalKind) (a b : Record) where
-  pub covers-single : k ≡ Single → (t : Bool) → t ≡ same_key (key_of a) (key_of b) → t ≡ covers (removal_at k a) (key_of b)
+  pub covers-single : k ≡ Single → (x : Key) → x ≡ key_of b → (t : Bool) → t ≡ same_key (key_of a) x → t ≡ covers (removal_at k a) (key_of b)
   unfolding covers removal_at
-  covers-single h t e = e ∙ sym (ap (λ (j : RemovalKind). covers (removal_at j a) (key_of b)) h)
+  covers-single h x f t e = e ∙ ap (same_key (key_of a)) f ∙ sym (ap (λ (j : RemovalKind). covers (removal_at j a) (key_of b)) h)
 
   module _ (h : k ≡ Single → ⊥) (t : Bool) (e : t ≡ same_numbers k a b) where
     split : covers (removal_at k a) (key_of b) ≡ (t && same_name a.owner b.owner)

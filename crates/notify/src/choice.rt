@@ -7,33 +7,32 @@ ghost use Rattle.notify.specs.Marks.{removal_at, kind_of, marked, told_apart, he
 
 use crate::marks::{Marks, for_each};
 use crate::removal::{RemovalKind, same_numbers, widest};
-use zone::Store;
+use zone::{Block, Store};
 
 // For each record of a store the kind of its removal, where it has one.
 pub type Kinds = [Option<RemovalKind>; zone::RECORDS];
 
 // Whether just one of two collective removals at a's record covers b's, where b is marked. It takes two that differ in b's numbers.
-fn tells_apart(mark: bool, narrow: RemovalKind, wide: RemovalKind, a: &[u8], b: &[u8]) -> bool
+fn tells_apart(mark: bool, narrow: RemovalKind, wide: RemovalKind, a: Block, b: Block) -> bool
     requires { (narrow ≢ RemovalKind.Single) × (wide ≢ RemovalKind.Single) }
-    ensures { result ≡ told_apart mark (removal_at narrow (rec_of a.now)) (removal_at wide (rec_of a.now)) (key_of (rec_of b.now)) }
+    ensures { result ≡ told_apart mark (removal_at narrow (rec_of a.entry.octets.now)) (removal_at wide (rec_of a.entry.octets.now)) (key_of (rec_of b.entry.octets.now)) }
 {
     if !mark {
         return false;
     }
-    same_numbers(narrow, a, b) != same_numbers(wide, a, b)
-        && wire::same_name(zone::owner(a), zone::owner(b))
+    same_numbers(narrow, a, b) != same_numbers(wide, a, b) && wire::same_name(a.owner(), b.owner())
 }
 
 // Whether two collective removals at a's record cover the same of the marked records.
-fn alike(narrow: RemovalKind, wide: RemovalKind, a: &[u8], old: Store, gone: &Marks) -> bool
+fn alike(narrow: RemovalKind, wide: RemovalKind, a: Block, old: Store, gone: &Marks) -> bool
     requires { (narrow ≢ RemovalKind.Single) × (wide ≢ RemovalKind.Single) }
-    ensures { result ≡ are_alike (marked gone.now (records_in old.entry)) (removal_at narrow (rec_of a.now)) (removal_at wide (rec_of a.now)) }
+    ensures { result ≡ are_alike (marked gone.now (records_in old.entry)) (removal_at narrow (rec_of a.entry.octets.now)) (removal_at wide (rec_of a.entry.octets.now)) }
 {
     if narrow == wide {
         return true;
     }
-    for i in 0..zone::clamped(old.count) {
-        if tells_apart(gone[i], narrow, wide, a, zone::block(old.area, i)) {
+    for i in 0..old.len() {
+        if tells_apart(gone[i], narrow, wide, a, old.block(i)) {
             return false;
         }
     }
@@ -41,8 +40,8 @@ fn alike(narrow: RemovalKind, wide: RemovalKind, a: &[u8], old: Store, gone: &Ma
 }
 
 // The kind of the removal that 01 fixes for a's record, where the marked records of the old store leave the view.
-fn chosen(a: &[u8], old: Store, gone: &Marks, new: Store) -> RemovalKind
-    ensures { result ≡ kind_of (chosen_at (records_in new.entry) (marked gone.now (records_in old.entry)) (rec_of a.now)) }
+fn chosen(a: Block, old: Store, gone: &Marks, new: Store) -> RemovalKind
+    ensures { result ≡ kind_of (chosen_at (records_in new.entry) (marked gone.now (records_in old.entry)) (rec_of a.entry.octets.now)) }
 {
     let wide = widest(a, new);
     if wide == RemovalKind::Single {
@@ -63,7 +62,7 @@ pub fn choose(old: Store, gone: &Marks, new: Store) -> Kinds
 {
     for_each(old, None, |i| {
         if gone[i] {
-            Some(chosen(zone::block(old.area, i), old, gone, new))
+            Some(chosen(old.block(i), old, gone, new))
         } else {
             None
         }

@@ -8,6 +8,7 @@ ghost use Rattle.notify.specs.Marks.{removal_at};
 ghost use Rattle.notify.specs.Written.{record_in, given_octets, AllShort, Step, room};
 
 use crate::removal::RemovalKind;
+use zone::Block;
 
 // Type or class ANY.
 const ANY: u16 = 255;
@@ -26,22 +27,22 @@ pub struct Fields<'a> {
 }
 
 // The addition of a block's record.
-pub fn addition(b: &[u8]) -> Fields<'_>
-    ensures { record_in result ≡ rec_of b.now }
+pub fn addition(b: Block<'_>) -> Fields<'_>
+    ensures { record_in result ≡ rec_of b.entry.octets.now }
 {
     Fields {
-        name: zone::owner(b),
-        rrtype: zone::rrtype(b),
-        rrclass: zone::rrclass(b),
-        ttl: zone::ttl(b),
-        rdata: zone::rdata(b),
+        name: b.owner(),
+        rrtype: b.rrtype(),
+        rrclass: b.rrclass(),
+        ttl: b.ttl(),
+        rdata: b.rdata(),
     }
 }
 
 // The removal of a kind at a block's record. One of all classes names type 0.
 #[tactic(auto, unfolding(crate::specs::Marks::removal_at, push::specs::Change::fields_of))]
-pub fn removal(kind: RemovalKind, b: &[u8]) -> Fields<'_>
-    ensures { record_in result ≡ fields_of (removed (removal_at kind (rec_of b.now))) }
+pub fn removal(kind: RemovalKind, b: Block<'_>) -> Fields<'_>
+    ensures { record_in result ≡ fields_of (removed (removal_at kind (rec_of b.entry.octets.now))) }
 {
     let one = Fields {
         ttl: REMOVE_ONE,
@@ -69,10 +70,10 @@ fn write_fixed(out: &mut [u8], at: usize, fields: Fields)
     requires { (at + 10 < 2 ^ 64) × (length fields.rdata.now < 2 ^ 16) }
     ensures { out.new ≡ sets out.old at (octets 2 fields.entry.rrtype ++ (octets 2 fields.entry.rrclass ++ (octets 4 fields.entry.ttl ++ octets 2 (length fields.entry.rdata.now)))) }
 {
-    wire::write16(out, at, fields.rrtype);
-    wire::write16(out, at + 2, fields.rrclass);
-    wire::write32(out, at + 4, fields.ttl);
-    wire::write16(out, at + 8, fields.rdata.len() as u16);
+    wire::write_field(out, at, fields.rrtype);
+    wire::write_field(out, at + 2, fields.rrclass);
+    wire::write_field(out, at + 4, fields.ttl);
+    wire::write_field(out, at + 8, fields.rdata.len() as u16);
 }
 
 // A change from a place on, if there is one; the place behind it.

@@ -5,15 +5,14 @@ ghost use Rattle.zone.specs.Lists.{keep};
 ghost use Rattle.zone.specs.Record.{key_of};
 ghost use Rattle.zone.specs.Store.{find, held};
 ghost use Rattle.zone.specs.Match.{matches as matching, wanted as wanted_by, view};
-ghost use Rattle.zone.specs.Table.{rec_of, records_in, index_of, found_at};
+ghost use Rattle.zone.specs.Table.{rec_of, records_in};
 ghost use Rattle.session.specs.Table.{subscriptions_in, subscription_for};
 ghost use Rattle.push.specs.List.{has_ttl, leaving, entering};
 ghost use Rattle.notify.specs.Marks.{marked};
 
-use crate::removal::same_record;
 use dso::Question;
 use session::Subscriptions;
-use zone::{Found, Store};
+use zone::{Block, Store};
 
 // A mark for each record of a store.
 pub type Marks = [bool; zone::RECORDS];
@@ -24,73 +23,53 @@ pub fn for_each<T: Copy, F: Fn(usize) -> T>(store: Store, none: T, value: F) -> 
     ensures { (i : _) → i < min store.entry.count max_records → F.post value i (get_or result i none) }
 {
     let mut values = [none; zone::RECORDS];
-    for i in 0..zone::clamped(store.count) {
+    for i in 0..store.len() {
         values[i] = value(i);
     }
     values
 }
 
-// Where a store has a block's record.
-fn find_in(store: Store, b: &[u8]) -> Found
-    ensures { result ≡ found_at (index_of (key_of (rec_of b.now)) (records_in store.entry)) }
-{
-    zone::find(
-        store.area,
-        store.count,
-        zone::owner(b),
-        zone::rrtype(b),
-        zone::rrclass(b),
-        zone::rdata(b),
-    )
-}
-
 // Whether a block's record stands at a place of a store.
-fn stands_at(store: Store, place: usize, b: &[u8]) -> bool
-    ensures { result ≡ held (key_of (rec_of b.now)) (take 1 (drop place (records_in store.entry))) }
+fn stands_at(store: Store, place: usize, b: Block) -> bool
+    ensures { result ≡ held (key_of (rec_of b.entry.octets.now)) (take 1 (drop place (records_in store.entry))) }
 {
-    place < zone::clamped(store.count) && same_record(zone::block(store.area, place), b)
+    place < store.len() && store.block(place).has_key(b.key())
 }
 
 // Whether a store has a block's record. The place where it should stand is looked at first.
-fn is_held(store: Store, place: usize, b: &[u8]) -> bool
-    ensures { result ≡ held (key_of (rec_of b.now)) (records_in store.entry) }
+fn is_held(store: Store, place: usize, b: Block) -> bool
+    ensures { result ≡ held (key_of (rec_of b.entry.octets.now)) (records_in store.entry) }
 {
-    stands_at(store, place, b) || matches!(find_in(store, b), Found::At(_))
+    stands_at(store, place, b) || store.find(b.key()).is_some()
 }
 
 // Whether a store has a block's record with the block's TTL.
-fn has_ttl(store: Store, b: &[u8]) -> bool
-    ensures { result ≡ has_ttl (find (key_of (rec_of b.now)) (records_in store.entry)) (rec_of b.now).ttl }
+fn has_ttl(store: Store, b: Block) -> bool
+    ensures { result ≡ has_ttl (find (key_of (rec_of b.entry.octets.now)) (records_in store.entry)) (rec_of b.entry.octets.now).ttl }
 {
-    match find_in(store, b) {
-        Found::At(i) => zone::ttl(zone::block(store.area, i)) == zone::ttl(b),
-        Found::Nothing => false,
+    match store.find(b.key()) {
+        Some(i) => store.block(i).ttl() == b.ttl(),
+        None => false,
     }
 }
 
 // Whether one of a session's subscriptions matches a block's record.
-fn is_wanted(subs: Subscriptions, b: &[u8]) -> bool
-    ensures { result ≡ wanted_by (subscriptions_in subs.entry) (rec_of b.now) }
+fn is_wanted(subs: Subscriptions, b: Block) -> bool
+    ensures { result ≡ wanted_by (subscriptions_in subs.entry) (rec_of b.entry.octets.now) }
 {
-    session::wanted(
-        subs.area,
-        subs.count,
-        zone::owner(b),
-        zone::rrtype(b),
-        zone::rrclass(b),
-    )
+    subs.wanted(Question {
+        name: b.owner(),
+        rrtype: b.rrtype(),
+        rrclass: b.rrclass(),
+    })
 }
 
 // Whether a subscription to a question matches a block's record.
-fn matches(question: Question, b: &[u8]) -> bool
-    ensures { result ≡ matching (subscription_for 0 question.entry) (rec_of b.now) }
+fn matches(question: Question, b: Block) -> bool
+    ensures { result ≡ matching (subscription_for 0 question.entry) (rec_of b.entry.octets.now) }
 {
-    dso::asks_for(
-        question.rrtype,
-        question.rrclass,
-        zone::rrtype(b),
-        zone::rrclass(b),
-    ) && wire::same_name(question.name, zone::owner(b))
+    dso::asks_for(question.rrtype, question.rrclass, b.rrtype(), b.rrclass())
+        && wire::same_name(question.name, b.owner())
 }
 
 // The records of the old store that the new one doesn't have. Those that stay keep their order, so the next of them should
@@ -100,8 +79,8 @@ pub fn departed(old: Store, new: Store) -> Marks
 {
     let mut marks = [false; zone::RECORDS];
     let mut place = 0;
-    for i in 0..zone::clamped(old.count) {
-        let held = is_held(new, place, zone::block(old.area, i));
+    for i in 0..old.len() {
+        let held = is_held(new, place, old.block(i));
         marks[i] = !held;
         if held {
             place += 1;
@@ -114,7 +93,7 @@ pub fn departed(old: Store, new: Store) -> Marks
 pub fn arrived(old: Store, new: Store) -> Marks
     ensures { marked result (records_in new.entry) ≡ entering (records_in old.entry) (records_in new.entry) }
 {
-    for_each(new, false, |i| !has_ttl(old, zone::block(new.area, i)))
+    for_each(new, false, |i| !has_ttl(old, new.block(i)))
 }
 
 // Those of marked records that one of a session's subscriptions matches.
@@ -122,16 +101,12 @@ pub fn visible(store: Store, among: &Marks, subs: Subscriptions) -> Marks
     ensures { marked result (records_in store.entry) ≡ view (subscriptions_in subs.entry) (marked among.now (records_in store.entry)) }
 {
     for_each(store, false, |i| {
-        among[i] && is_wanted(subs, zone::block(store.area, i))
+        among[i] && is_wanted(subs, store.block(i))
     })
 }
 
 pub fn matched(store: Store, question: Question) -> Marks
     ensures { marked result (records_in store.entry) ≡ keep (matching (subscription_for 0 question.entry)) (records_in store.entry) }
 {
-    for_each(
-        store,
-        false,
-        |i| matches(question, zone::block(store.area, i)),
-    )
+    for_each(store, false, |i| matches(question, store.block(i)))
 }

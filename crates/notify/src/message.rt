@@ -19,12 +19,12 @@ use crate::marks::{Marks, matched, visible};
 use crate::removal::{RemovalKind, covers};
 use dso::Question;
 use session::Subscriptions;
-use zone::Store;
+use zone::{Block, Store};
 
 // Whether a record's removal, where it has one, covers b's.
 #[tactic(auto, unfolding(crate::specs::Marks::kind_covers))]
-fn kind_covers(kind: Option<RemovalKind>, e: &[u8], b: &[u8]) -> bool
-    ensures { result ≡ kind_covers kind (rec_of e.now) (rec_of b.now) }
+fn kind_covers(kind: Option<RemovalKind>, e: Block, b: Block) -> bool
+    ensures { result ≡ kind_covers kind (rec_of e.entry.octets.now) (rec_of b.entry.octets.now) }
 {
     match kind {
         Some(kind) => covers(kind, e, b),
@@ -37,9 +37,9 @@ fn is_first(old: Store, kinds: &Kinds, i: usize) -> bool
     requires { i < min old.count max_records }
     ensures { result ≡ is_head (removals_of kinds.now (take i (records_in old.entry))) (rec_of (block_at old.entry.area.now i)) }
 {
-    let b = zone::block(old.area, i);
+    let b = old.block(i);
     for j in 0..i {
-        if kind_covers(kinds[j], zone::block(old.area, j), b) {
+        if kind_covers(kinds[j], old.block(j), b) {
             return false;
         }
     }
@@ -53,7 +53,7 @@ fn removal_sent<'a>(old: Store<'a>, kinds: &Kinds, i: usize) -> Option<Fields<'a
 {
     let kind = kinds[i]?;
     if is_first(old, kinds, i) {
-        return Some(fields::removal(kind, zone::block(old.area, i)));
+        return Some(fields::removal(kind, old.block(i)));
     }
     None
 }
@@ -64,7 +64,7 @@ fn addition_sent<'a>(new: Store<'a>, marks: &Marks, i: usize) -> Option<Fields<'
     ensures { Gives (addition_at (get_or marks.now i false) (rec_of (block_at new.entry.area.now i))) result }
 {
     if marks[i] {
-        return Some(fields::addition(zone::block(new.area, i)));
+        return Some(fields::addition(new.block(i)));
     }
     None
 }
@@ -82,7 +82,7 @@ fn write_each<'a, F: Fn(usize) -> Option<Fields<'a>>>(
     ensures { WroteEach (F.post change) (min store.entry.count max_records) out.old at out.new result }
 {
     let mut end = at;
-    for i in 0..zone::clamped(store.count) {
+    for i in 0..store.len() {
         end = fields::write(out, end, change(i));
     }
     end
@@ -107,8 +107,6 @@ const FRONT: usize = 18;
 
 const UNIDIRECTIONAL: u16 = 0x3000;
 
-const PUSH: u16 = 0x41;
-
 // What stands in front of changes that end at a place; the length of the whole. An empty list sends no PUSH.
 fn finish(out: &mut [u8], end: usize) -> usize
     requires { (front_length ≤ end) × (end < 2 ^ 16) }
@@ -118,7 +116,7 @@ fn finish(out: &mut [u8], end: usize) -> usize
         return 0;
     }
     dso::write_header(out, (end - 2) as u16, dso::MessageId(0), UNIDIRECTIONAL);
-    dso::write_tlv(out, 14, PUSH, (end - FRONT) as u16);
+    dso::write_tlv(out, 14, dso::TlvType::Push.into(), (end - FRONT) as u16);
     end
 }
 

@@ -5,4 +5,4 @@ use Rattle.notify.proofs.Choices.{Agreed}
 use Rattle.notify.proofs.choice.alike.Given as goal
 
 abbrev pub invariant-loop-i : goal.invariant-loop-i
-invariant-loop-i l = Agreed (removal_at l.narrow (rec_of l.a)) (removal_at l.wide (rec_of l.a)) l.gone (records_in l.old) l.i
+invariant-loop-i l = Agreed (removal_at l.narrow (rec_of l.a.octets.now)) (removal_at l.wide (rec_of l.a.octets.now)) l.gone (records_in l.old) l.i

@@ -2,8 +2,8 @@
 use Rattle.notify.proofs.Lookups.{ttl-found, ttl-nothing}
 use Rattle.notify.proofs.marks.has_ttl.Goals as goal
 
-pub returns-in-At : goal.returns-in-At
-returns-in-At c = search ttl-found
+pub returns-in-Some : goal.returns-in-Some
+returns-in-Some c = search ttl-found
 
-pub returns-in-Nothing : goal.returns-in-Nothing
-returns-in-Nothing c = search ttl-nothing
+pub returns-in-None : goal.returns-in-None
+returns-in-None c = search ttl-nothing

@@ -2,8 +2,8 @@
 use Rattle.notify.proofs.Lookups.{stands-past, stands_here}
 use Rattle.notify.proofs.marks.stands_at.Goals as goal
 
-pub returns-then-place-clamped : goal.returns-then-place-clamped
-returns-then-place-clamped c = search stands_here
+pub returns-then-place-len : goal.returns-then-place-len
+returns-then-place-len c = search stands_here
 
-pub returns-else-place-clamped : goal.returns-else-place-clamped
-returns-else-place-clamped c = search stands-past
+pub returns-else-place-len : goal.returns-else-place-len
+returns-else-place-len c = search stands-past

@@ -9,4 +9,4 @@ use Rattle.notify.specs.Marks.{kind_covers}
 use Rattle.notify.proofs.message.is_first.Given as goal
 
 abbrev pub invariant-loop-j : goal.invariant-loop-j
-invariant-loop-j l = (k : ℕ) → k < l.j → kind_covers (get_or l.kinds k None) (rec_of (block_at l.old.area.now k)) (rec_of l.b) ≡ false
+invariant-loop-j l = (k : ℕ) → k < l.j → kind_covers (get_or l.kinds k None) (rec_of (block_at l.old.area.now k)) (rec_of l.b.octets.now) ≡ false

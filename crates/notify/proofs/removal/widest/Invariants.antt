@@ -4,4 +4,4 @@ use Rattle.notify.proofs.Removals.{Widest}
 use Rattle.notify.proofs.removal.widest.Given as goal
 
 abbrev pub invariant-loop-i : goal.invariant-loop-i
-invariant-loop-i l = Widest (records_in l.store) (rec_of l.a) l.kind l.i
+invariant-loop-i l = Widest (records_in l.store) (rec_of l.a.octets.now) l.kind l.i
