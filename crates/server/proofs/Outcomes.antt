@@ -1,6 +1,7 @@
 -- What the calls give, from what their parts ensure.
 use Prim.Native.Nat.{ℕ}
 use native.Mathlib.Omega.{arith}
+use mathlib.Core.Bool.{Bool}
 use mathlib.Core.List.{List, [], map}
 use mathlib.Core.Option.{none, some}
 use Rattle.std.specs.Prelude.{Option, Some, None, Result, Ok, Err}
@@ -14,7 +15,6 @@ use Rattle.service.specs.Call.{Call, brought, lent, refuse, with_slots, passed, 
 use Rattle.service.specs.declared.refusal.Refusal.{Refusal}
 use Rattle.service.specs.declared.refusal.Refusal.TheVariants.{AllOpen}
 use Rattle.server.specs.declared.state.Server.{Server}
-use Rattle.server.specs.declared.answer.Flags.{Flags}
 use Rattle.server.specs.declared.answer.Outcome.{Outcome}
 use Rattle.server.specs.declared.change.Change.{Change}
 use Rattle.server.specs.declared.change.Change.TheVariants.{Opens, Closes, Ends}
@@ -23,7 +23,7 @@ use Rattle.server.specs.Memory.{Memory, area_at, state_of}
 use Rattle.server.specs.Numbers.{vacancy, newcomer}
 use Rattle.server.specs.Changes.{change_answer, change_numbers, answer_by, numbers_by, decided_by}
 use Rattle.server.specs.Checks.{option_of, brought_of, refused_by}
-use Rattle.server.specs.Answers.{Gives, Serves, answer_of, flags_of, refusing}
+use Rattle.server.specs.Answers.{Gives, Serves, answer_of, refusing}
 use Rattle.server.proofs.States.{state-put, slot-vacancy, slot-newcomer}
 use Rattle.server.proofs.Ticks.{state-ticked}
 
@@ -120,7 +120,7 @@ gives-closed s t i m =
 
 -- ---- tick
 
-pub gives-ticked : (s : Server) (t : ℕ) (f : Flags) → ((m : Memory) → flags_of f ≡ map (ends_at t) (state_of s m).slots)
+pub gives-ticked : (s : Server) (t : ℕ) (f : List Bool) → ((m : Memory) → f ≡ map (ends_at t) (state_of s m).slots)
     → (m : Memory) → Gives s (decided_by s t (Ok (Ends f))) m [] (tick_outcome (state_of s m) t)
 unfolding numbers_by answer_by change_numbers change_answer tick_outcome answer_of
 gives-ticked s t f h m =

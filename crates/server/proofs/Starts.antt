@@ -17,12 +17,12 @@ use Rattle.service.specs.declared.refusal.Refusal.TheVariants.{NotAName}
 use Rattle.server.specs.declared.state.Server.{Server}
 use Rattle.std.specs.Prelude.{Ok, Err}
 use Rattle.server.specs.Memory.{Memory, with_zone, slot_of, state_of}
-use Rattle.server.specs.Numbers.{fresh_of}
+use Rattle.server.specs.Numbers.{session_at, fresh_of}
 use Rattle.server.specs.Starting.{Starts}
 
 fresh-state : (zone octets : List ℕ) (m : Memory) → take (length zone) octets ≡ zone
     → state_of (fresh_of (length zone)) (with_zone octets m) ≡ fresh zone
-unfolding state_of fresh_of fresh slot_of records_of blocks
+unfolding state_of session_at fresh_of fresh slot_of records_of blocks
 fresh-state zone octets m e = rw e
 
 module _ (zone before : List ℕ) (b : Bool) (n : b ≡ is_name zone) where

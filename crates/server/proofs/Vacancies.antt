@@ -51,4 +51,4 @@ pub lowest-found : (s : Server) (m : Memory) (r : Option ℕ)
     → option_of r ≡ lowest_free (state_of s m).slots
 unfolding state_of
 lowest-found s m r e =
-    ap option_of e ∙ lowest-of (slot_of s.s0 m.s0) (slot_of s.s1 m.s1) (slot_of s.s2 m.s2) (slot_of s.s3 m.s3)
+    ap option_of e ∙ lowest-of (slot_of (session_at 0 s) m.s0) (slot_of (session_at 1 s) m.s1) (slot_of (session_at 2 s) m.s2) (slot_of (session_at 3 s) m.s3)

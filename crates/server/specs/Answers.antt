@@ -1,5 +1,5 @@
 -- The server's answers as the service's, which have 01's numbers; and what a call has to give.
-use Rattle.std.specs.Prelude.{ℕ, Bool, cond, List, [], ◌∷◌, ◌≡◌, ltb}
+use Rattle.std.specs.Prelude.{ℕ, cond, List, ◌≡◌, ltb}
 use Rattle.service.specs.Answer.{done, opened, ended, sent, not_ours, aborted, reconfirm, refused, answer_number}
 use Rattle.service.specs.Answer as Service
 use Rattle.service.specs.Call as Call
@@ -17,23 +17,15 @@ use Rattle.server.specs.declared.answer.Answer.TheVariants.{
   Reconfirm,
   Refused,
 }
-use Rattle.server.specs.declared.answer.Flags.{Flags}
-use Rattle.server.specs.declared.answer.Counts.{Counts}
 use Rattle.server.specs.declared.answer.Outcome.{Outcome}
 use Rattle.server.specs.declared.answer.Heard.{Heard}
 use Rattle.server.specs.declared.state.Server.{Server}
 
-abbrev pub flags_of : Flags → List Bool
-flags_of f = f.f0 ∷ f.f1 ∷ f.f2 ∷ f.f3 ∷ []
-
-abbrev pub counts_of : Counts → List ℕ
-counts_of n = n.c0 ∷ n.c1 ∷ n.c2 ∷ n.c3 ∷ []
-
 unfoldable pub answer_of : Answer → Service.Answer
 answer_of Done = done
 answer_of (Opened s) = opened s.0
-answer_of (Ended f) = ended (flags_of f)
-answer_of (Sent n) = sent (counts_of n)
+answer_of (Ended f) = ended f
+answer_of (Sent n) = sent n
 answer_of NotOurs = not_ours
 answer_of Aborted = aborted
 answer_of (Reconfirm places) = reconfirm places

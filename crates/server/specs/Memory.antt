@@ -8,6 +8,7 @@ use Rattle.service.specs.State.{State, Slot, free, live}
 use Rattle.service.specs.State as Service
 use Rattle.server.specs.declared.state.Session.{Session}
 use Rattle.server.specs.declared.state.Server.{Server}
+use Rattle.server.specs.Numbers.{session_at}
 
 -- The lent octets: the zone's name; two areas for the records, of which one holds the store; each session's subscriptions.
 pub record Memory : Type 0 where
@@ -59,7 +60,8 @@ abbrev pub store_of : Server → Memory → List Record
 store_of s m = records_of s.records (holding s m)
 
 abbrev pub slots_of : Server → Memory → List Slot
-slots_of s m = slot_of s.s0 m.s0 ∷ slot_of s.s1 m.s1 ∷ slot_of s.s2 m.s2 ∷ slot_of s.s3 m.s3 ∷ []
+slots_of s m =
+    slot_of (session_at 0 s) m.s0 ∷ slot_of (session_at 1 s) m.s1 ∷ slot_of (session_at 2 s) m.s2 ∷ slot_of (session_at 3 s) m.s3 ∷ []
 
 unfoldable pub state_of : Server → Memory → State
 state_of s m = record { zone = take s.zone m.zone; latest = s.latest; store = store_of s m; slots = slots_of s m }

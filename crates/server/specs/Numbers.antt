@@ -1,10 +1,10 @@
 -- The server's numbers, changed: what the inner functions make of them.
-use Rattle.std.specs.Prelude.{ℕ, zero, suc, Bool, true, false, cond}
+use Rattle.std.specs.Prelude.{ℕ, Bool, true, false, cond, List, [], ◌∷◌, get_or, set, replicate, ltb}
 use Rattle.session.specs.Clocks.{started}
+use Rattle.service.specs.State.{max_sessions}
 use Rattle.server.specs.declared.state.Session.{Session}
 use Rattle.server.specs.declared.state.Server.{Server}
 use Rattle.server.specs.declared.state.Context.{Context}
-use Rattle.server.specs.declared.answer.Flags.{Flags}
 
 -- The numbers of a session with no subscription; those of a place that no session has, and of a session that is opened.
 abbrev pub bare_of : Bool → ℕ → Session
@@ -18,11 +18,11 @@ newcomer t = bare_of true t
 
 -- The numbers of a session; past the last one those of a vacant place.
 unfoldable pub session_at : ℕ → Server → Session
-session_at zero s = s.s0
-session_at (suc zero) s = s.s1
-session_at (suc (suc zero)) s = s.s2
-session_at (suc (suc (suc zero))) s = s.s3
-session_at (suc (suc (suc (suc i)))) s = vacancy
+session_at i s = cond (ltb i max_sessions) (get_or s.sessions i vacancy) vacancy
+
+-- The four.
+abbrev pub four : Server → List Session
+four s = session_at 0 s ∷ session_at 1 s ∷ session_at 2 s ∷ session_at 3 s ∷ []
 
 -- What a message needs of the numbers, with a session's numbers; and with those of session i.
 abbrev pub context_with : Session → Server → Context
@@ -32,48 +32,25 @@ context_with x s =
 abbrev pub context_of : ℕ → Server → Context
 context_of i s = context_with (session_at i s) s
 
-abbrev pub sessions : Session → Session → Session → Session → Server → Server
-sessions a b c d s =
-    record {
-      latest = s.latest;
-      zone = s.zone;
-      records = s.records;
-      second = s.second;
-      s0 = a;
-      s1 = b;
-      s2 = c;
-      s3 = d;
-    }
-
 -- A session's numbers are replaced; past the last one nothing is.
 unfoldable pub put_session : ℕ → Session → Server → Server
-put_session zero x s = sessions x s.s1 s.s2 s.s3 s
-put_session (suc zero) x s = sessions s.s0 x s.s2 s.s3 s
-put_session (suc (suc zero)) x s = sessions s.s0 s.s1 x s.s3 s
-put_session (suc (suc (suc zero))) x s = sessions s.s0 s.s1 s.s2 x s
-put_session (suc (suc (suc (suc i)))) x s = s
+put_session i x s = record s { sessions = set (four s) i x }
 
 -- The time is accepted.
 unfoldable pub at_time : ℕ → Server → Server
-at_time t s =
-    record {
-      latest = t;
-      zone = s.zone;
-      records = s.records;
-      second = s.second;
-      s0 = s.s0;
-      s1 = s.s1;
-      s2 = s.s2;
-      s3 = s.s3;
-    }
+at_time t s = record s { latest = t }
 
 -- The sessions that are flagged are gone.
 unfoldable pub kept_of : Bool → Session → Session
 kept_of ended x = cond ended vacancy x
 
-unfoldable pub swept_by : Flags → Server → Server
-swept_by f s =
-    sessions (kept_of f.f0 s.s0) (kept_of f.f1 s.s1) (kept_of f.f2 s.s2) (kept_of f.f3 s.s3) s
+unfoldable pub unflagged : List Bool → List Session → List Session
+unflagged flags [] = []
+unflagged [] (x ∷ l) = x ∷ l
+unflagged (f ∷ fs) (x ∷ l) = kept_of f x ∷ unflagged fs l
+
+unfoldable pub swept_by : List Bool → Server → Server
+swept_by flags s = record s { sessions = unflagged flags (four s) }
 
 -- A server that starts with a zone's name of n octets.
 unfoldable pub fresh_of : ℕ → Server
@@ -83,8 +60,5 @@ fresh_of n =
       zone = n;
       records = 0;
       second = false;
-      s0 = vacancy;
-      s1 = vacancy;
-      s2 = vacancy;
-      s3 = vacancy;
+      sessions = replicate max_sessions vacancy;
     }

@@ -2,27 +2,15 @@
 ghost use Rattle.std.specs.Prelude.{◌≡◌};
 ghost use Rattle.server.specs.Answers.{refusing};
 
-use crate::state::{Server, Session};
+use crate::state::{SESSIONS, Server, Session};
 use dso::RecordPlaces;
 use service::{Refusal, SessionNumber};
 
 // For each session, whether it was aborted.
-#[derive(Clone, Copy)]
-pub struct Flags {
-    pub f0: bool,
-    pub f1: bool,
-    pub f2: bool,
-    pub f3: bool,
-}
+pub type Flags = [bool; SESSIONS as usize];
 
 // For each session, how many bytes stand at its output's start.
-#[derive(Clone, Copy)]
-pub struct Counts {
-    pub c0: usize,
-    pub c1: usize,
-    pub c2: usize,
-    pub c3: usize,
-}
+pub type Counts = [usize; SESSIONS as usize];
 
 #[derive(Clone, Copy)]
 pub enum Answer {

@@ -24,10 +24,7 @@ pub struct Server {
     pub records: usize,
     // Which of the two areas holds the records: the second or the first.
     pub second: bool,
-    pub s0: Session,
-    pub s1: Session,
-    pub s2: Session,
-    pub s3: Session,
+    pub sessions: [Session; SESSIONS as usize],
 }
 
 // What a message of one session needs of the numbers.
@@ -69,16 +66,12 @@ pub fn opened(t: u64) -> Session
 pub fn fresh(zone: usize) -> Server
     ensures { result ≡ fresh_of zone }
 {
-    let none = vacant();
     Server {
         latest: 0,
         zone,
         records: 0,
         second: false,
-        s0: none,
-        s1: none,
-        s2: none,
-        s3: none,
+        sessions: [vacant(); SESSIONS as usize],
     }
 }
 
@@ -86,19 +79,10 @@ pub fn fresh(zone: usize) -> Server
 pub fn session_at(server: Server, i: u64) -> Session
     ensures { result ≡ session_at i server }
 {
-    if i == 0 {
-        return server.s0;
+    match server.sessions.get(i as usize) {
+        Some(x) => *x,
+        None => vacant(),
     }
-    if i == 1 {
-        return server.s1;
-    }
-    if i == 2 {
-        return server.s2;
-    }
-    if i == 3 {
-        return server.s3;
-    }
-    vacant()
 }
 
 pub fn context_at(server: Server, i: u64) -> Context
@@ -117,21 +101,8 @@ pub fn context_at(server: Server, i: u64) -> Context
 pub fn with_session(mut server: Server, i: u64, s: Session) -> Server
     ensures { result ≡ put_session i s server }
 {
-    if i == 0 {
-        server.s0 = s;
-        return server;
-    }
-    if i == 1 {
-        server.s1 = s;
-        return server;
-    }
-    if i == 2 {
-        server.s2 = s;
-        return server;
-    }
-    if i == 3 {
-        server.s3 = s;
-        return server;
+    if i < SESSIONS {
+        server.sessions[i as usize] = s;
     }
     server
 }

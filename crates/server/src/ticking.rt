@@ -2,7 +2,6 @@
 ghost use Rattle.std.specs.Prelude.{◌≡◌, List, map, ℕ};
 ghost use Rattle.service.specs.Call.{ends_at};
 ghost use Rattle.server.specs.Memory.{Memory, slot_of, state_of};
-ghost use Rattle.server.specs.Answers.{flags_of};
 ghost use Rattle.server.specs.Numbers.{kept_of, swept_by};
 
 use crate::answer::Flags;
@@ -22,40 +21,24 @@ fn ends(s: Session, t: u64) -> bool
 
 // Which sessions a tick at a time aborts.
 pub fn due(server: Server, t: u64) -> Flags
-    ensures { (m : Memory) → flags_of result ≡ map (ends_at t) (state_of server m).slots }
+    ensures { (m : Memory) → result ≡ map (ends_at t) (state_of server m).slots }
 {
-    let s0 = server.s0;
-    let s1 = server.s1;
-    let s2 = server.s2;
-    let s3 = server.s3;
-    Flags {
-        f0: ends(s0, t),
-        f1: ends(s1, t),
-        f2: ends(s2, t),
-        f3: ends(s3, t),
-    }
+    server.sessions.map(|s| ends(s, t))
 }
 
+#[tactic(auto, unfolding(crate::specs::Numbers::kept_of))]
 fn kept(s: Session, ended: bool) -> Session
     ensures { result ≡ kept_of ended s }
 {
-    if ended {
-        return vacant();
-    }
-    s
+    if ended { vacant() } else { s }
 }
 
 // Without the sessions that are flagged.
 pub fn swept(mut server: Server, flags: Flags) -> Server
     ensures { result ≡ swept_by flags server }
 {
-    let s0 = server.s0;
-    let s1 = server.s1;
-    let s2 = server.s2;
-    let s3 = server.s3;
-    server.s0 = kept(s0, flags.f0);
-    server.s1 = kept(s1, flags.f1);
-    server.s2 = kept(s2, flags.f2);
-    server.s3 = kept(s3, flags.f3);
+    for i in 0..flags.len() {
+        server.sessions[i] = kept(server.sessions[i], flags[i]);
+    }
     server
 }

@@ -4,4 +4,4 @@ use Rattle.server.proofs.state.fresh.Goals as goal
 
 pub returns : goal.returns
 unfolding fresh_of
-returns c = rw c.vacant-none.ensures
+returns c = rw c.vacant.ensures

@@ -1,25 +1,15 @@
--- `server::state::session_at` meets its contract: case by case. Assumes nothing.
-use native.Mathlib.Omega.{arith}
-use mathlib.Core.Path.{◌∙◌}
-use Rattle.server.specs.Numbers.{session_at}
-use Rattle.server.proofs.States.{session-past}
+-- `server::state::session_at` meets its contract. Assumes nothing.
+use Rattle.std.proofs.Common.{sym, ◌∙◌, arith}
+use Rattle.server.specs.Numbers.{vacancy}
+use Rattle.server.proofs.States.{session-past, session-within}
 use Rattle.server.proofs.state.session_at.Goals as goal
 
-pub returns-then-i-eq0 : goal.returns-then-i-eq0
-unfolding session_at
-returns-then-i-eq0 c = rw c.if-i-eq0.true
+pub returns-in-Some : goal.returns-in-Some
+returns-in-Some c =
+    let h = c.in-Some.ensures.lookup.3 in
+    h.1 vacancy ∙ sym (session-within c.args.i c.args.server (omega arith))
 
-pub returns-then-i-eq1 : goal.returns-then-i-eq1
-unfolding session_at
-returns-then-i-eq1 c = rw c.if-i-eq1.true
-
-pub returns-then-i-eq2 : goal.returns-then-i-eq2
-unfolding session_at
-returns-then-i-eq2 c = rw c.if-i-eq2.true
-
-pub returns-then-i-eq3 : goal.returns-then-i-eq3
-unfolding session_at
-returns-then-i-eq3 c = rw c.if-i-eq3.true
-
-pub returns : goal.returns
-returns c = c.vacant.ensures ∙ session-past _ _ (omega arith)
+pub returns-in-None : goal.returns-in-None
+returns-in-None c =
+    let h = c.in-None.ensures.lookup.3 in
+    c.vacant.ensures ∙ session-past c.args.i c.args.server (omega arith)

@@ -1,24 +1,10 @@
--- `server::state::with_session` meets its contract: case by case. Assumes nothing.
-use native.Mathlib.Omega.{arith}
-use Rattle.server.specs.Numbers.{put_session}
-use Rattle.server.proofs.States.{put-past}
+-- `server::state::with_session` meets its contract. Assumes nothing.
+use Rattle.std.proofs.Common.{arith}
+use Rattle.server.proofs.States.{put-by, put-past}
 use Rattle.server.proofs.state.with_session.Goals as goal
 
-pub returns-then-i-eq0 : goal.returns-then-i-eq0
-unfolding put_session
-returns-then-i-eq0 c = rw c.if-i-eq0.true
+pub returns-then-i-lt-SESSIONS : goal.returns-then-i-lt-SESSIONS
+returns-then-i-lt-SESSIONS c = put-by c.args.i c.args.s c.args.server (omega arith)
 
-pub returns-then-i-eq1 : goal.returns-then-i-eq1
-unfolding put_session
-returns-then-i-eq1 c = rw c.if-i-eq1.true
-
-pub returns-then-i-eq2 : goal.returns-then-i-eq2
-unfolding put_session
-returns-then-i-eq2 c = rw c.if-i-eq2.true
-
-pub returns-then-i-eq3 : goal.returns-then-i-eq3
-unfolding put_session
-returns-then-i-eq3 c = rw c.if-i-eq3.true
-
-pub returns : goal.returns
-returns c = put-past _ _ _ (omega arith)
+pub returns-else-i-lt-SESSIONS : goal.returns-else-i-lt-SESSIONS
+returns-else-i-lt-SESSIONS c = put-past c.args.i c.args.s c.args.server (omega arith) (omega arith)
