@@ -4,7 +4,7 @@ use native.Mathlib.Omega.{arith}
 use mathlib.Core.Bool.{Bool, true, false, cond, not}
 use mathlib.Core.List.{List, [], ◌∷◌}
 use mathlib.Core.Path.{◌≡◌, refl, sym, ap, ◌∙◌}
-use Rattle.std.proofs.lemmas.List.{set_past}
+use Rattle.std.proofs.lemmas.List.{set_past, get_or_default}
 use lib.ListN.{length, get_or, set}
 use borrow.Author.Tests.{lt-ltb, le-ltb}
 use Rattle.session.specs.Clocks.{started}
@@ -31,6 +31,10 @@ session-past i s h = rw (le-ltb i max_sessions h)
 pub session-within : (i : ℕ) (s : Server) → i < 4 → session_at i s ≡ get_or s.sessions i vacancy
 unfolding session_at
 session-within i s h = rw (lt-ltb i max_sessions h)
+
+-- What is read of a server of four.
+pub session-read : (i : ℕ) (d : Session) (s : Server) → length s.sessions ≡ max_sessions → i < max_sessions → get_or s.sessions i d ≡ session_at i s
+session-read i d s h k = get_or_default s.sessions i d vacancy (omega arith) ∙ sym (session-within i s k)
 
 -- A list of four.
 pub four-of : {A : Type 0} (d : A) (l : List A) → length l ≡ max_sessions → l ≡ get_or l 0 d ∷ get_or l 1 d ∷ get_or l 2 d ∷ get_or l 3 d ∷ []

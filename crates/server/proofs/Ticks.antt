@@ -17,8 +17,8 @@ use Rattle.service.specs.Call.{has_any, ends_at, with_slots}
 use Rattle.server.specs.declared.state.Session.{Session}
 use Rattle.server.specs.declared.state.Server.{Server}
 use Rattle.server.specs.Memory.{Memory, area_at, slot_of, state_of}
-use Rattle.server.specs.Numbers.{session_at, kept_of, unflagged, swept_by, at_time}
-use Rattle.server.proofs.States.{four-of, four-all, slot-live, slot-dead, slot-vacancy}
+use Rattle.server.specs.Numbers.{vacancy, session_at, kept_of, unflagged, put_session, swept_by, at_time}
+use Rattle.server.proofs.States.{four-of, four-all, put-by, session-within, slot-live, slot-dead, slot-vacancy}
 
 -- ---- whether a session ends
 
@@ -124,3 +124,21 @@ module _ (f : List Bool) (s : Server) where
     swept-all h k =
         e ∙ ap (λ (l : List Session). record s { sessions = l })
         (ap (λ (g : List Bool). unflagged g s.sessions) (take_all i f h) ∙ ap (unflagged f) (four-all s k))
+
+length-unflagged : (f : List Bool) (l : List Session) → length (unflagged f l) ≡ length l
+unfolding unflagged
+length-unflagged f [] = refl
+length-unflagged [] (x ∷ l) = refl
+length-unflagged (b ∷ f) (x ∷ l) = ap suc (length-unflagged f l)
+
+-- The same where the time is accepted first and each session is replaced by itself.
+pub swept-turn : (t : ℕ) (f : List Bool) (s : Server) (i : ℕ) → length s.sessions ≡ max_sessions → i < length f → i < max_sessions
+    → at_time t (put_session i (kept_of (get_or f i false) (session_at i (at_time t (swept_to i f s)))) (at_time t (swept_to i f s)))
+    ≡ at_time t (swept_to (i + 1) f s)
+unfolding at_time
+swept-turn t f s i h k b =
+    let x = kept_of (get_or f i false) (session_at i (at_time t (swept_to i f s))) in
+    ap (at_time t) (sym (put-by i x (at_time t (swept_to i f s)) (omega (arith, length-unflagged (take i f) s.sessions))))
+    ∙ ap (at_time t)
+    (swept-more f s (swept_to i f s) i refl k (omega arith) x vacancy
+    (ap (kept_of (get_or f i false)) (session-within i (at_time t (swept_to i f s)) b)))

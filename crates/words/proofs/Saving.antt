@@ -5,11 +5,15 @@ use native.Mathlib.Omega.{arith}
 use native.Mathlib.Nat.{add-zero, zero-add}
 use native.Mathlib.Nat.{mod-eq_of_lt}
 use mathlib.Core.Bool.{Bool, true, false, cond}
-use mathlib.Core.List.{List, [], ◌∷◌}
-use mathlib.Core.Path.{◌≡◌, refl, sym, ap, ◌∙◌}
+use mathlib.Core.List.{List, [], ◌∷◌, ◌++◌}
+use Rattle.std.proofs.lemmas.List.{append_assoc, drop_all, drop-drop}
+use mathlib.Core.Path.{◌≡◌, refl, sym, ap, subst, ◌∙◌}
+use borrow.Rule.Slice.PartMut.{put_mid}
+use borrow.Author.Count.{below_none, below_more}
+use native.Mathlib.Numerals.{add-one}
 use Rattle.std.specs.Prelude.{Result, Ok, Err}
-use lib.ListN.{length, get_or, set, length-set}
-use lib.Seq.{sets, get_or-set_same, get_or-set_other}
+use lib.ListN.{length, get_or, set, take, drop, length-set}
+use lib.Seq.{sets, sets-eq, get_or-set_same, get_or-set_other}
 use lib.Dec.{eqb}
 use borrow.Author.Tests.{eqb-true, eqb-false, ne_eqb}
 use Rattle.wire.proofs.Writes.{sets-out}
@@ -17,12 +21,12 @@ use Rattle.service.specs.State.{max_sessions}
 use Rattle.server.specs.declared.state.Session.{Session}
 use Rattle.server.specs.declared.state.Server.{Server}
 use Rattle.service.specs.declared.refusal.Refusal.{Refusal}
-use Rattle.server.specs.declared.answer.Flags.{Flags}
 use Rattle.server.specs.declared.change.Change.{Change}
 use Rattle.server.specs.declared.change.Change.TheVariants.{Opens, Closes}
-use Rattle.server.specs.Numbers.{vacancy, newcomer, kept_of, session_at, put_session, at_time, swept_by}
+use Rattle.server.specs.Numbers.{vacancy, newcomer, kept_of, session_at, four, put_session, at_time, swept_by}
 use Rattle.server.specs.Changes.{change_numbers, numbers_by}
-use Rattle.server.proofs.States.{put-past}
+use Rattle.server.proofs.Ticks.{swept_to, swept_none, swept-all, swept-turn}
+use Rattle.server.proofs.States.{four-all, put-past}
 use Rattle.words.specs.Words.{
   truth,
   flag,
@@ -32,7 +36,6 @@ use Rattle.words.specs.Words.{
   session_words,
   words_of,
   Timed,
-  Six,
   Stored,
   session_saved,
   SavedSession,
@@ -49,52 +52,28 @@ session-back : (x : Session) (rest : List ℕ) → Timed x → session_in (sessi
 session-back x rest t =
     rw (truth-flag x.live, mod-eq_of_lt t.inactivity, mod-eq_of_lt t.keepalive)
 
-server-parts : (s : Server) {t z n : ℕ} {b : Bool} {x0 x1 x2 x3 : Session} → t ≡ s.latest → z ≡ s.zone → n ≡ s.records
-    → b ≡ s.second → x0 ≡ s.s0 → x1 ≡ s.s1 → x2 ≡ s.s2 → x3 ≡ s.s3
-    → ◌≡◌ {A = Server}
-    (record {
-      latest = t;
-      zone = z;
-      records = n;
-      second = b;
-      s0 = x0;
-      s1 = x1;
-      s2 = x2;
-      s3 = x3;
-    }) s
-server-parts s t z n b p q r u = rw (t, z, n, b, p, q, r, u)
+server-parts : (s : Server) {t z n : ℕ} {b : Bool} {l : List Session} → t ≡ s.latest → z ≡ s.zone → n ≡ s.records
+    → b ≡ s.second → l ≡ s.sessions
+    → ◌≡◌ {A = Server} (record { latest = t; zone = z; records = n; second = b; sessions = l }) s
+server-parts s t z n b l = rw (t, z, n, b, l)
+
+-- Four sessions by their places.
+four-sessions : {a b c d a' b' c' d' : Session} → a ≡ a' → b ≡ b' → c ≡ c' → d ≡ d' → a ∷ b ∷ c ∷ d ∷ [] ≡ a' ∷ b' ∷ c' ∷ d' ∷ []
+four-sessions p q r u = rw (p, q, r, u)
 
 -- The numbers of a server, as words, are those numbers.
-pub server-back : (s : Server) → Timed s.s0 → Timed s.s1 → Timed s.s2 → Timed s.s3 → server_of (words_of s) ≡ s
+pub server-back : (s : Server) → length s.sessions ≡ max_sessions → ((i : ℕ) → i < max_sessions → Timed (session_at i s))
+    → server_of (words_of s) ≡ s
 unfolding server_of words_of
-server-back s t0 t1 t2 t3 =
-    server-parts s refl refl refl (truth-flag s.second) (session-back s.s0 [] t0) (session-back s.s1 [] t1)
-    (session-back s.s2 [] t2) (session-back s.s3 [] t3)
+server-back s h timed =
+    server-parts s refl refl refl (truth-flag s.second)
+    (four-sessions (session-back (session_at 0 s) [] (timed 0 (omega arith))) (session-back (session_at 1 s) [] (timed 1 (omega arith)))
+    (session-back (session_at 2 s) [] (timed 2 (omega arith))) (session-back (session_at 3 s) [] (timed 3 (omega arith)))
+    ∙ sym (four-all s h))
 
-six-words : {x : Session} {l a v i k n : ℕ} {rest rest' : List ℕ} → Six x l a v i k n → rest ≡ rest'
-    → l ∷ a ∷ v ∷ i ∷ k ∷ n ∷ rest ≡ session_words x rest'
-six-words h e = rw (h.lives, h.actives, h.alives, h.inactivities, h.keepalives, h.counts, e)
-
-server-words : (s : Server) {z n f : ℕ} {l l' : List ℕ} → z ≡ s.zone → n ≡ s.records → f ≡ flag s.second → l ≡ l'
-    → s.latest ∷ z ∷ n ∷ f ∷ l ≡ s.latest ∷ s.zone ∷ s.records ∷ flag s.second ∷ l'
-server-words s z n f e = rw (z, n, f, e)
-
-pub saved : (s : Server) {w : List ℕ} → w ≡ words_of s → Timed s.s0 → Timed s.s1 → Timed s.s2 → Timed s.s3 → Saved s w
-saved s e t0 t1 t2 t3 = record { words = e; server = ap server_of e ∙ server-back s t0 t1 t2 t3 }
-
-pub saved-words : (s : Server) {z n f l0 a0 v0 i0 k0 n0 l1 a1 v1 i1 k1 n1 l2 a2 v2 i2 k2 n2 l3 a3 v3 i3 k3 n3 : ℕ}
-    → Six s.s0 l0 a0 v0 i0 k0 n0 → Six s.s1 l1 a1 v1 i1 k1 n1 → Six s.s2 l2 a2 v2 i2 k2 n2 → Six s.s3 l3 a3 v3 i3 k3 n3
-    → z ≡ s.zone → n ≡ s.records → f ≡ flag s.second
-    → Saved s (
-    s.latest ∷ z ∷ n ∷ f ∷ l0 ∷ a0 ∷ v0 ∷ i0 ∷ k0 ∷ n0 ∷ l1 ∷ a1 ∷ v1 ∷ i1 ∷ k1 ∷ n1 ∷ l2 ∷ a2 ∷ v2 ∷ i2 ∷ k2 ∷ n2
-    ∷ l3 ∷ a3 ∷ v3 ∷ i3 ∷ k3 ∷ n3 ∷ []
-    )
-unfolding words_of
-saved-words s h0 h1 h2 h3 z n f =
-    saved s (server-words s z n f (six-words h0 (six-words h1 (six-words h2 (six-words h3 refl)))))
-    h0.timed h1.timed h2.timed h3.timed
-
--- ---- one session's words
+pub server-four : (w : List ℕ) → length (server_of w).sessions ≡ max_sessions
+unfolding server_of
+server-four w = refl
 
 -- A run of stores changes what it covers, and nothing else.
 get_d-sets-out : (l : List ℕ) (i : ℕ) (vs : List ℕ) (k : ℕ) → ((j : ℕ) → j < length vs → i + j ≡ k → ⊥) → get_or (sets l i vs) k 0 ≡ get_or l k 0
@@ -114,19 +93,13 @@ get_d-sets-in l i (v ∷ vs) (suc j) h k =
     ap (λ (n : ℕ). get_or (sets (set l i v) (suc i) vs) n 0) e
     ∙ get_d-sets-in (set l i v) (suc i) vs j (omega arith) (omega (arith, length-set l i v))
 
--- Stores one behind the other are a run.
-pub stored : (w : List ℕ) (at : ℕ) {x : Session} {l a v i k n : ℕ} → Six x l a v i k n
-    → Stored x at w (set (set (set (set (set (set w at l) (at + 1) a) (at + 2) v) (at + 3) i) (at + 4) k) (at + 5) n)
-stored w at h =
-    let e1 : at + 1 ≡ suc at = omega arith in
-    let e2 : at + 2 ≡ suc (suc at) = omega arith in
-    let e3 : at + 3 ≡ suc (suc (suc at)) = omega arith in
-    let e4 : at + 4 ≡ suc (suc (suc (suc at))) = omega arith in
-    let e5 : at + 5 ≡ suc (suc (suc (suc (suc at)))) = omega arith in
-    record {
-      words = rw (e1, e2, e3, e4, e5, h.lives, h.actives, h.alives, h.inactivities, h.keepalives, h.counts);
-      timed = h.timed;
-    }
+pub stored : (w : List ℕ) (at k : ℕ) (x : Session) (six : List ℕ) → at + 6 ≤ length w → k ≡ 6 → six ≡ session_words x [] → Timed x
+    → Stored x at w (put_mid at k w six)
+stored w at k x six h p e t = record {
+  words = rw (p, e)
+      (ap (λ (r : List ℕ). take at w ++ (session_words x [] ++ r)) (drop-drop 6 at w) ∙ sym (append_assoc (take at w) (session_words x []) (drop (at + 6) w)) ∙ sym (sets-eq (session_words x []) w at h));
+  timed = t;
+}
 
 -- Six words are a session.
 session-by : (w v : List ℕ) (b c : ℕ) → ((j : ℕ) → j < 6 → get_or w (b + j) 0 ≡ get_or v (c + j) 0) → session_in w b ≡ session_in v c
@@ -162,15 +135,10 @@ module _ (w : List ℕ) (t i : ℕ) (x : Session) (whole : length w ≡ 28) (tim
 -- The server with another session, place by place.
 put_by : ℕ → ℕ → Session → Server → Server
 put_by t i x s =
-    record {
+    record s {
       latest = t;
-      zone = s.zone;
-      records = s.records;
-      second = s.second;
-      s0 = cond (eqb i 0) x s.s0;
-      s1 = cond (eqb i 1) x s.s1;
-      s2 = cond (eqb i 2) x s.s2;
-      s3 = cond (eqb i 3) x s.s3;
+      sessions = cond (eqb i 0) x (session_at 0 s) ∷ cond (eqb i 1) x (session_at 1 s) ∷ cond (eqb i 2) x (session_at 2 s)
+          ∷ cond (eqb i 3) x (session_at 3 s) ∷ [];
     }
 
 put-by : (t i : ℕ) (x : Session) (s : Server) → put_by t i x s ≡ at_time t (put_session i x s)
@@ -185,7 +153,7 @@ put-by t (suc (suc (suc (suc i)))) x s =
 
 module _ (w : List ℕ) (t i : ℕ) (x : Session) (whole : length w ≡ 28) (timed : i < max_sessions → Timed x) where
   server-saved : server_of (session_saved t i x w) ≡ at_time t (put_session i x (server_of w))
-  unfolding server_of put_by
+  unfolding server_of session_at put_by
   server-saved =
       let front = front-saved w t i x whole timed in
       let session = session-saved w t i x whole timed in
@@ -193,7 +161,7 @@ module _ (w : List ℕ) (t i : ℕ) (x : Session) (whole : length w ≡ 28) (tim
       (front 1 (omega arith) ∙ get_or-set_other w 0 1 t 0 (λ d. omega arith))
       (front 2 (omega arith) ∙ get_or-set_other w 0 2 t 0 (λ d. omega arith))
       (ap truth (front 3 (omega arith) ∙ get_or-set_other w 0 3 t 0 (λ d. omega arith)))
-      (session 0 (omega arith)) (session 1 (omega arith)) (session 2 (omega arith)) (session 3 (omega arith))
+      (four-sessions (session 0 (omega arith)) (session 1 (omega arith)) (session 2 (omega arith)) (session 3 (omega arith)))
       ∙ put-by t i x (server_of w)
 
   saved-session : (w' : List ℕ) → w' ≡ session_saved t i x w → SavedSession t i x w w'
@@ -210,6 +178,59 @@ module _ (w : List ℕ) (t i : ℕ) (x : Session) (whole : length w ≡ 28) wher
       saved-session w t i x whole (λ g. h.timed) w'
       (h.words ∙ ap (λ (n : ℕ). sets (set w 0 t) n (session_words x [])) e)
 
+-- ---- all sessions, one behind the other
+
+all_words : List Session → List ℕ
+all_words [] = []
+all_words (x ∷ l) = session_words x (all_words l)
+
+-- The words with those of the server, and of its first i sessions, at their front.
+pub written_to : ℕ → Server → List ℕ → List ℕ
+written_to i s w = sets w 0 (s.latest ∷ s.zone ∷ s.records ∷ flag s.second ∷ all_words (take i (four s)))
+
+written-more : (i : ℕ) (s : Server) (w : List ℕ) → i < max_sessions
+    → sets (written_to i s w) (place_of i) (session_words (session_at i s) []) ≡ written_to (suc i) s w
+unfolding written_to all_words
+written-more zero s w h = refl
+written-more (suc zero) s w h = refl
+written-more (suc (suc zero)) s w h = refl
+written-more (suc (suc (suc zero))) s w h = refl
+written-more (suc (suc (suc (suc i)))) s w h = absurd (omega arith)
+
+written-all : (s : Server) (w : List ℕ) → length w ≡ 28 → written_to max_sessions s w ≡ words_of s
+unfolding written_to all_words words_of
+written-all s w h =
+    sets-eq (words_of s) w 0 (omega (arith, h)) ∙ rw (drop_all (length (words_of s)) w (omega (arith, h)))
+
+pub record Writing (s : Server) (w w' : List ℕ) (i : ℕ) : Type 0 where
+  pub words : w' ≡ written_to i s w
+  pub timed : (j : ℕ) → j < i → Timed (session_at j s)
+
+module _ (s : Server) (w : List ℕ) where
+  pub writing_none : (n : ℕ) → n ≡ flag s.second → Writing s w (set (set (set (set w 0 s.latest) 1 s.zone) 2 s.records) 3 n) 0
+  unfolding written_to all_words
+  writing_none n e =
+      record {
+        words = ap (set (set (set (set w 0 s.latest) 1 s.zone) 2 s.records) 3) e;
+        timed = below_none (λ (j : ℕ). Timed (session_at j s));
+      }
+
+  module _ (w' : List ℕ) (i : ℕ) (h : Writing s w w' i) where
+    pub writing-more : i < max_sessions → (at : ℕ) → at ≡ place_of i → (x : Session) → x ≡ session_at i s → (w'' : List ℕ) → Stored x at w' w''
+        → Writing s w w'' (i + 1)
+    writing-more b at p x e w'' k =
+        record {
+          words =
+              k.words ∙ rw (p, e, h.words, add-one i) (written-more i s w b);
+          timed = below_more (λ (j : ℕ). Timed (session_at j s)) i h.timed (subst Timed e k.timed);
+        }
+
+    pub writing-all : max_sessions ≤ i → i ≤ max_sessions → length w ≡ 28 → length s.sessions ≡ max_sessions → Saved s w'
+    writing-all a b l f =
+        let e : i ≡ max_sessions = omega arith in
+        let words : w' ≡ words_of s = h.words ∙ ap (λ (n : ℕ). written_to n s w) e ∙ written-all s w l in
+        record { words = words; server = ap server_of words ∙ server-back s f (λ j k. h.timed j (omega arith)) }
+
 -- ---- the session of a number is read
 
 pub session-at : (w : List ℕ) (i : ℕ) → i < max_sessions → session_in w (place_of i) ≡ session_at i (server_of w)
@@ -222,27 +243,56 @@ session-at w (suc (suc (suc (suc i)))) h = absurd (omega arith)
 
 -- ---- the sessions that a tick aborts, and those that it does not
 
-put_same : (i : ℕ) (s : Server) → put_session i (session_at i s) s ≡ s
-unfolding put_session session_at
-put_same zero s = refl
-put_same (suc zero) s = refl
-put_same (suc (suc zero)) s = refl
-put_same (suc (suc (suc zero))) s = refl
-put_same (suc (suc (suc (suc i)))) s = refl
+put_same : (i : ℕ) (s : Server) → length s.sessions ≡ max_sessions → put_session i (session_at i s) s ≡ s
+unfolding put_session
+put_same i s h = by i ∙ ap (λ (l : List Session). record s { sessions = l }) (sym (four-all s h))
+  where
+    by : (j : ℕ) → put_session j (session_at j s) s ≡ record s { sessions = four s }
+    by zero = refl
+    by (suc zero) = refl
+    by (suc (suc zero)) = refl
+    by (suc (suc (suc zero))) = refl
+    by (suc (suc (suc (suc j)))) = refl
 
 module _ (t i : ℕ) (x : Session) (s : Server) (ended : Bool) where
   pub aborted : x ≡ vacancy → ended ≡ true → at_time t (put_session i x s) ≡ ended_at t ended i s
   unfolding kept_of
   aborted e f = rw (e, f)
 
-  pub spared : ended ≡ false → at_time t (put_session max_sessions x s) ≡ ended_at t ended i s
+  pub spared : length s.sessions ≡ max_sessions → ended ≡ false → at_time t (put_session max_sessions x s) ≡ ended_at t ended i s
   unfolding kept_of
-  spared f = rw (f, put_same i s, ← put-past max_sessions x s (omega arith))
+  spared h f = rw (f, put_same i s h, ← put-past max_sessions x s h (omega arith))
 
-pub swept : (t : ℕ) (f : Flags) (s a b c d : Server) → a ≡ ended_at t f.f0 0 s → b ≡ ended_at t f.f1 1 a
-    → c ≡ ended_at t f.f2 2 b → d ≡ ended_at t f.f3 3 c → d ≡ at_time t (swept_by f s)
-unfolding session_at put_session at_time swept_by
-swept t f s a b c d p q r u = rw (u, r, q, p)
+-- The first i sessions are looked at.
+pub record Ending (t : ℕ) (f : List Bool) (w w' : List ℕ) (i : ℕ) : Type 0 where
+  pub within : i ≤ max_sessions
+  pub server : server_of w' ≡ at_time t (swept_to i f (server_of w))
+
+module _ (t : ℕ) (f : List Bool) (w : List ℕ) where
+  pub ending_none : length w ≡ 28 → Ending t f w (set w 0 t) 0
+  ending_none h =
+      record {
+        within = omega arith;
+        server =
+            (saved-none w t max_sessions vacancy h (omega arith)).server
+            ∙ ap (at_time t) (sym (put-past max_sessions vacancy (server_of w) (server-four w) (omega arith)) ∙ swept_none f (server_of w));
+      }
+
+  module _ (w' : List ℕ) (i : ℕ) (h : Ending t f w w' i) where
+    pub ending-more : i < max_sessions → length f ≡ max_sessions → (w'' : List ℕ)
+        → server_of w'' ≡ ended_at t (get_or f i false) i (server_of w') → Ending t f w w'' (i + 1)
+    ending-more b k w'' e =
+        record {
+          within = omega arith;
+          server =
+              e ∙ ap (ended_at t (get_or f i false) i) h.server
+              ∙ swept-turn t f (server_of w) i (server-four w) (omega arith) b;
+        }
+
+    pub ending-all : max_sessions ≤ i → length f ≡ max_sessions → server_of w' ≡ at_time t (swept_by f (server_of w))
+    ending-all a k =
+        h.server
+        ∙ ap (at_time t) (swept-all f (server_of w) (swept_to i f (server_of w)) i refl (omega arith) (server-four w))
 
 -- ---- a change or a refusal
 

@@ -40,10 +40,7 @@ server_of w =
       zone = get_or w 1 0;
       records = get_or w 2 0;
       second = truth (get_or w 3 0);
-      s0 = session_in w 4;
-      s1 = session_in w 10;
-      s2 = session_in w 16;
-      s3 = session_in w 22;
+      sessions = session_in w (place_of 0) ∷ session_in w (place_of 1) ∷ session_in w (place_of 2) ∷ session_in w (place_of 3) ∷ [];
     }
 
 abbrev pub flag : Bool → ℕ
@@ -57,22 +54,13 @@ session_words x rest =
 unfoldable pub words_of : Server → List ℕ
 words_of s =
     s.latest ∷ s.zone ∷ s.records ∷ flag s.second
-    ∷ session_words s.s0 (session_words s.s1 (session_words s.s2 (session_words s.s3 [])))
+    ∷ session_words (session_at 0 s)
+    (session_words (session_at 1 s) (session_words (session_at 2 s) (session_words (session_at 3 s) [])))
 
 -- A session's timeouts have 32 bits.
 pub record Timed (x : Session) : Type 0 where
   pub inactivity : x.clocks.inactivity < 4294967296
   pub keepalive : x.clocks.keepalive < 4294967296
-
--- A session's words, one by one.
-pub record Six (x : Session) (live active alive inactivity keepalive count : ℕ) : Type 0 where
-  pub lives : live ≡ flag x.live
-  pub actives : active ≡ x.clocks.active
-  pub alives : alive ≡ x.clocks.alive
-  pub inactivities : inactivity ≡ x.clocks.inactivity
-  pub keepalives : keepalive ≡ x.clocks.keepalive
-  pub counts : count ≡ x.count
-  pub timed : Timed x
 
 -- A session's words stand at a place, and the others are as they were.
 pub record Stored (x : Session) (at : ℕ) (w w' : List ℕ) : Type 0 where

@@ -1,10 +1,10 @@
 // A server's numbers in the words that a C host lends, which any words are.
-ghost use Rattle.std.specs.Prelude.{◌+◌, ◌<◌, ◌≤◌, ◌≡◌, length};
+ghost use Rattle.std.specs.Prelude.{◌+◌, ◌<◌, ◌≤◌, ◌≡◌, length, []};
 ghost use Rattle.service.specs.State.{max_sessions};
 ghost use Rattle.server.specs.Numbers.{session_at, context_of, at_time, swept_by};
 ghost use Rattle.server.specs.Changes.{change_numbers};
-ghost use Rattle.words.specs.Words.{flag, timeout, place_of, session_in, server_of, ended_at};
-ghost use Rattle.words.specs.Words.{Six, Saved, Stored, SavedSession, SavedDecision};
+ghost use Rattle.words.specs.Words.{timeout, place_of, session_in, server_of, ended_at};
+ghost use Rattle.words.specs.Words.{session_words, Timed, Saved, Stored, SavedSession, SavedDecision};
 
 use server::{Change, Context, Decision, Flags, SESSIONS, Server, Session, opened, vacant};
 use session::Clocks;
@@ -15,15 +15,7 @@ pub const WORDS: usize = 28;
 pub type Words = [u64; WORDS];
 
 // A session's six words.
-#[derive(Clone, Copy)]
-struct SessionWords {
-    live: u64,
-    active: u64,
-    alive: u64,
-    inactivity: u64,
-    keepalive: u64,
-    count: u64,
-}
+type SessionWords = [u64; 6];
 
 // 32 bits of a word count.
 fn timeout_of(word: u64) -> u32
@@ -58,6 +50,7 @@ fn session_in(words: &Words, at: usize) -> Session
     }
 }
 
+#[tactic(auto, unfolding(crate::specs::Words::server_of))]
 pub fn load(words: &Words) -> Server
     ensures { result ≡ server_of words.now }
 {
@@ -66,10 +59,12 @@ pub fn load(words: &Words) -> Server
         zone: words[1] as usize,
         records: words[2] as usize,
         second: words[3] != 0,
-        s0: session_in(words, 4),
-        s1: session_in(words, 10),
-        s2: session_in(words, 16),
-        s3: session_in(words, 22),
+        sessions: [
+            session_in(words, place_of(0)),
+            session_in(words, place_of(1)),
+            session_in(words, place_of(2)),
+            session_in(words, place_of(3)),
+        ],
     }
 }
 
@@ -84,6 +79,7 @@ fn session_at(words: &Words, i: u64) -> Session
 }
 
 // What a message of one session needs.
+#[tactic(auto, unfolding(crate::specs::Words::server_of))]
 pub fn load_context(words: &Words, i: u64) -> Context
     ensures { result ≡ context_of i (server_of words.now) }
 {
@@ -96,82 +92,19 @@ pub fn load_context(words: &Words, i: u64) -> Context
     }
 }
 
-pub fn flag_of(b: bool) -> u64
-    ensures { result ≡ flag b }
-{
-    if b { 1 } else { 0 }
-}
-
-fn wide(n: usize) -> u64
-    ensures { result ≡ n }
-{
-    n as u64
-}
-
-fn milliseconds(t: u32) -> u64
-    ensures { (result ≡ t) × (t < 4294967296) }
-{
-    t as u64
-}
-
 fn session_words(x: Session) -> SessionWords
-    ensures { Six x result.live result.active result.alive result.inactivity result.keepalive result.count }
+    ensures words { result ≡ session_words x [] }
+    ensures timed { Timed x }
 {
     let clocks = x.clocks;
-    SessionWords {
-        live: flag_of(x.live),
-        active: clocks.active,
-        alive: clocks.alive,
-        inactivity: milliseconds(clocks.inactivity),
-        keepalive: milliseconds(clocks.keepalive),
-        count: wide(x.count),
-    }
-}
-
-pub fn save(words: &mut Words, server: Server)
-    ensures { Saved server words.new }
-{
-    let s0 = server.s0;
-    let s1 = server.s1;
-    let s2 = server.s2;
-    let s3 = server.s3;
-    let a = session_words(s0);
-    let b = session_words(s1);
-    let c = session_words(s2);
-    let d = session_words(s3);
-    let zone = wide(server.zone);
-    let records = wide(server.records);
-    let second = flag_of(server.second);
-    *words = [
-        server.latest,
-        zone,
-        records,
-        second,
-        a.live,
-        a.active,
-        a.alive,
-        a.inactivity,
-        a.keepalive,
-        a.count,
-        b.live,
-        b.active,
-        b.alive,
-        b.inactivity,
-        b.keepalive,
-        b.count,
-        c.live,
-        c.active,
-        c.alive,
-        c.inactivity,
-        c.keepalive,
-        c.count,
-        d.live,
-        d.active,
-        d.alive,
-        d.inactivity,
-        d.keepalive,
-        d.count,
-    ];
+    [
+        u64::from(x.live),
+        clocks.active,
+        clocks.alive,
+        u64::from(clocks.inactivity),
+        u64::from(clocks.keepalive),
+        x.count as u64,
+    ]
 }
 
 // A session's six words from a place on.
@@ -179,13 +112,19 @@ fn store_session(words: &mut [u64], at: usize, x: Session)
     requires { at + 6 ≤ length words.old }
     ensures { Stored x at words.old words.new }
 {
-    let six = session_words(x);
-    words[at] = six.live;
-    words[at + 1] = six.active;
-    words[at + 2] = six.alive;
-    words[at + 3] = six.inactivity;
-    words[at + 4] = six.keepalive;
-    words[at + 5] = six.count;
+    words[at..at + 6].copy_from_slice(&session_words(x));
+}
+
+pub fn save(words: &mut Words, server: Server)
+    ensures { Saved server words.new }
+{
+    words[0] = server.latest;
+    words[1] = server.zone as u64;
+    words[2] = server.records as u64;
+    words[3] = u64::from(server.second);
+    for i in 0..SESSIONS {
+        store_session(words, place_of(i), server.sessions[i as usize]);
+    }
 }
 
 // Past the last session there are no words.
@@ -223,10 +162,10 @@ fn end_session(words: &mut Words, t: u64, ended: bool, i: u64)
 fn end_sessions(words: &mut Words, t: u64, flags: Flags)
     ensures { server_of words.new ≡ at_time t (swept_by flags (server_of words.old)) }
 {
-    end_session(words, t, flags.f0, 0);
-    end_session(words, t, flags.f1, 1);
-    end_session(words, t, flags.f2, 2);
-    end_session(words, t, flags.f3, 3);
+    words[0] = t;
+    for i in 0..SESSIONS {
+        end_session(words, t, flags[i as usize], i);
+    }
 }
 
 // The words that a change at a time leaves.

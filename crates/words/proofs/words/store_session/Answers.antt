@@ -1,23 +1,9 @@
--- `words::words::store_session` meets its contract: word by word. Assumes nothing.
-use native.Mathlib.Omega.{arith}
-use lib.ListN.{length-set}
+-- `words::words::store_session` meets its contract. Assumes nothing.
+use Rattle.std.proofs.Common.{◌∙◌, arith}
 use Rattle.words.proofs.Saving.{stored}
 use Rattle.words.proofs.words.store_session.Goals as goal
 
-pub bounds-words-at-2 : goal.bounds-words-at-2
-bounds-words-at-2 c = simp length-set (omega arith)
-
-pub bounds-words-at-3 : goal.bounds-words-at-3
-bounds-words-at-3 c = simp length-set (omega arith)
-
-pub bounds-words-at-4 : goal.bounds-words-at-4
-bounds-words-at-4 c = simp length-set (omega arith)
-
-pub bounds-words-at-5 : goal.bounds-words-at-5
-bounds-words-at-5 c = simp length-set (omega arith)
-
-pub bounds-words-at-6 : goal.bounds-words-at-6
-bounds-words-at-6 c = simp length-set (omega arith)
-
 pub returns : goal.returns
-returns c = stored c.args.words.now c.args.at c.session_words-six.ensures
+returns c =
+    let six = c.session_words.ensures in
+    stored c.args.words.now c.args.at _ c.args.x _ c.requires (omega arith) (c.copy_from_slice.ensures.after ∙ six.words) six.timed
