@@ -2,7 +2,7 @@
 ghost use Rattle.std.specs.Prelude.{◌≡◌};
 ghost use Rattle.server.specs.Numbers.{bare_of, vacancy, newcomer, session_at, context_of, put_session, at_time, fresh_of};
 
-use session::{Clocks, started};
+use session::Clocks;
 
 pub const SESSIONS: u64 = 4;
 
@@ -43,7 +43,7 @@ fn bare(live: bool, t: u64) -> Session
 {
     Session {
         live,
-        clocks: started(t),
+        clocks: Clocks::started(t),
         count: 0,
     }
 }

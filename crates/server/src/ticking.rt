@@ -6,17 +6,12 @@ ghost use Rattle.server.specs.Numbers.{kept_of, swept_by};
 
 use crate::answer::Flags;
 use crate::state::{Server, Session, vacant};
-use session::expired;
 
 // Whether a tick at a time aborts a session.
 fn ends(s: Session, t: u64) -> bool
     ensures { (area : List ℕ) → result ≡ ends_at t (slot_of s area) }
 {
-    if s.live {
-        let clocks = s.clocks;
-        return expired(clocks, 0 < s.count, t);
-    }
-    false
+    s.live && s.clocks.expired(0 < s.count, t)
 }
 
 // Which sessions a tick at a time aborts.
