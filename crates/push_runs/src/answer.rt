@@ -1,56 +1,56 @@
 // What is written: a line for each line of input.
-use std::io;
-use table::part;
+use std::fmt::Write;
+use std::{fmt, io};
 use zone::BatchFault;
 
-// Room for the longest line.
-const TEXT: usize = 32768;
+// A PUSH in hexadecimal digits, or that there is none.
+#[derive(Clone, Copy)]
+struct Push<'a>(&'a [u8]);
+
+impl fmt::Display for Push<'_> {
+    fn fmt<W: fmt::Write>(&self, f: &mut fmt::Formatter<W>) -> fmt::Result {
+        if self.0.is_empty() {
+            return f.write_str("-");
+        }
+        for b in self.0 {
+            write!(f, "{b:02x}")?;
+        }
+        Ok(())
+    }
+}
 
 pub fn unreadable(rt: &impl Print) -> io::Result<()> {
-    rt.write_all(b"?\n")
+    println!(rt; "?")
 }
 
 pub fn fresh(rt: &impl Print) -> io::Result<()> {
-    rt.write_all(b"fresh\t-\n")
-}
-
-pub fn unsubscribed(rt: &impl Print) -> io::Result<()> {
-    rt.write_all(b"unsubscribe\t-\n")
-}
-
-// A PUSH in hexadecimal digits, or that there is none, and the end of the line.
-fn print_push(rt: &impl Print, push: &[u8]) -> io::Result<()> {
-    if push.len() == 0 {
-        return rt.write_all(b"-\n");
-    }
-    let mut text = [0u8; TEXT];
-    let n = script::put_hex(&mut text, 0, push);
-    rt.write_all(part(&text, 0, n))?;
-    rt.write_all(b"\n")
+    println!(rt; "fresh\t-")
 }
 
 pub fn subscribed(rt: &impl Print, push: &[u8]) -> io::Result<()> {
-    rt.write_all(b"subscribe\t")?;
-    print_push(rt, push)
+    println!(rt; "subscribe\t{}", Push(push))
 }
 
-fn batch(rt: &impl Print, answer: u64, push: &[u8]) -> io::Result<()> {
-    rt.write_all(b"batch\t")?;
-    print!(rt; "{answer}")?;
-    rt.write_all(b"\t")?;
-    print_push(rt, push)
+pub fn unsubscribed(rt: &impl Print) -> io::Result<()> {
+    println!(rt; "unsubscribe\t-")
+}
+
+fn batch(rt: &impl Print, answer: u32, push: &[u8]) -> io::Result<()> {
+    println!(rt; "batch\t{answer}\t{}", Push(push))
 }
 
 // 01, "The answer numbers": 2 where there is a PUSH, 1 where there is none.
 pub fn stored(rt: &impl Print, push: &[u8]) -> io::Result<()> {
-    batch(rt, if push.len() == 0 { 1 } else { 2 }, push)
+    batch(rt, if push.is_empty() { 1 } else { 2 }, push)
 }
 
 pub fn refused(rt: &impl Print, fault: BatchFault) -> io::Result<()> {
-    batch(rt, refusal(fault), b"")
+    batch(rt, refusal(fault), &[])
 }
 
-fn refusal(fault: BatchFault) -> u64 {
+// The numbers of service/Answer.fault_number once more: this program stands beside the server, and shows what notify writes with
+// nothing of the server under it.
+fn refusal(fault: BatchFault) -> u32 {
     match fault {
         BatchFault::Unreadable => 14,
         BatchFault::BadValue => 15,

@@ -12,31 +12,22 @@ mod command;
 mod run;
 
 use input::{held_line, idle, next_line};
-use run::{fresh, run_line};
+use run::Run;
 use std::io;
 
-// A proved loop has to end, and nothing says that the input does: the turns are counted down.
+// A proved loop has to end, and nothing says that the input does: the turns are counted.
 fn main(rt: HostRuntime) -> io::Result<()> {
     let mut stdin = rt.stdin();
-    let mut first = [0u8; zone::AREA];
-    let mut second = [0u8; zone::AREA];
-    let mut subs = [0u8; session::AREA];
     let mut input = [0u8; 65536];
     let mut line = [0u8; 32769];
-    let mut s = fresh();
-    let mut p = next_line(idle(true), &mut input, &mut line, &mut stdin)?;
-    let mut turns = u64::MAX;
-    while turns > 0 && p.ready {
-        turns -= 1;
-        s = run_line(
-            &rt,
-            held_line(p, &line),
-            &mut first,
-            &mut second,
-            &mut subs,
-            s,
-        )?;
-        p = next_line(p, &mut input, &mut line, &mut stdin)?;
+    let mut run = Run::new();
+    let mut p = idle(true);
+    for _ in 0..u64::MAX {
+        let Some(next) = next_line(p, &mut input, &mut line, &mut stdin)? else {
+            break;
+        };
+        p = next;
+        run.run_line(&rt, held_line(p, &line))?;
     }
     Ok(())
 }

@@ -1,161 +1,142 @@
 // One line of a run, on one session's subscriptions and one zone, and its answer.
 use crate::answer;
 use crate::command::{Command, read_command};
+use dso::Question;
+use notify::Change;
 use script::Bytes;
+use session::Subscriptions;
 use std::io;
 use table::part;
-use zone::BatchResult;
+use zone::Store;
 
 // The output of one session.
 const OUTPUT: usize = 16384;
 
-// How many records there are, whether the second area holds them, and how many subscriptions there are.
-#[derive(Clone, Copy)]
-pub struct State {
-    pub records: usize,
-    pub second: bool,
-    pub live: usize,
-}
-
-pub fn fresh() -> State {
-    State {
-        records: 0,
-        second: false,
-        live: 0,
-    }
-}
-
-// The PUSH of a batch from one area into the other, and its answer.
-fn push(
-    rt: &impl Print,
-    old: &zone::Area,
+// The records are in the first area or in the second one.
+#[derive(Drop)]
+pub struct Run {
+    first: zone::Area,
+    second: zone::Area,
+    subs: session::Area,
     records: usize,
-    new: &zone::Area,
-    news: usize,
-    subs: &session::Area,
+    in_second: bool,
     live: usize,
-) -> io::Result<()> {
-    let gone = notify::departed(old, records, new, news);
-    let fresh = notify::arrived(old, records, new, news);
+}
+
+// The PUSH of a batch from the old store into the new one, and its answer.
+fn push(rt: &impl Print, old: Store, new: Store, subs: Subscriptions) -> io::Result<()> {
+    let gone = notify::departed(old, new);
+    let fresh = notify::arrived(old, new);
+    let change = Change {
+        old,
+        gone: &gone,
+        new,
+        fresh: &fresh,
+    };
     let mut out = [0u8; OUTPUT];
-    let n = notify::write_push(old, records, &gone, new, news, &fresh, subs, live, &mut out);
+    let n = notify::write_push(change, subs, &mut out);
     answer::stored(rt, part(&out, 0, n))
 }
 
-// A batch from the area that holds the records into the other one.
+// A batch from the area that holds the records into the other one; how many records that has then, if it holds them.
 fn batch(
     rt: &impl Print,
     bytes: &[u8],
-    old: &zone::Area,
+    old: Store,
     new: &mut zone::Area,
-    subs: &session::Area,
-    s: State,
-) -> io::Result<State> {
-    match zone::batch(b"\x04shop\x07example\0", bytes, old, s.records, new) {
-        BatchResult::Faulty(f) => {
-            answer::refused(rt, f)?;
-            Ok(s)
+    subs: Subscriptions,
+) -> io::Result<Option<usize>> {
+    match zone::batch(b"\x04shop\x07example\0", bytes, old, new) {
+        Err(fault) => {
+            answer::refused(rt, fault)?;
+            Ok(None)
         }
-        BatchResult::Stored(news) => {
-            push(rt, old, s.records, new, news, subs, s.live)?;
-            Ok(State {
-                records: news,
-                second: !s.second,
-                live: s.live,
-            })
+        Ok(count) => {
+            push(rt, old, Store { area: new, count }, subs)?;
+            Ok(Some(count))
         }
     }
 }
 
-// The subscription, and the first PUSH of it.
-fn subscribe(
-    rt: &impl Print,
-    name: &[u8],
-    id: u16,
-    rrtype: u16,
-    rrclass: u16,
-    store: &zone::Area,
-    subs: &mut session::Area,
-    s: State,
-) -> io::Result<State> {
-    let mut out = [0u8; OUTPUT];
-    let n = notify::write_first(store, s.records, name, rrtype, rrclass, &mut out, 0);
-    answer::subscribed(rt, part(&out, 0, n))?;
-    Ok(State {
-        records: s.records,
-        second: s.second,
-        live: session::append(subs, s.live, id, name, rrtype, rrclass),
-    })
-}
-
-fn unsubscribe(rt: &impl Print, id: u16, subs: &mut session::Area, s: State) -> io::Result<State> {
-    answer::unsubscribed(rt)?;
-    Ok(State {
-        records: s.records,
-        second: s.second,
-        live: session::remove(subs, s.live, id),
-    })
-}
-
-// The area that holds the records.
-fn store<'a>(first: &'a zone::Area, second: &'a zone::Area, s: State) -> &'a zone::Area {
-    if s.second {
-        return second;
-    }
-    first
-}
-
-fn run(
-    rt: &impl Print,
-    command: Command,
-    bytes: &Bytes,
-    first: &mut zone::Area,
-    second: &mut zone::Area,
-    subs: &mut session::Area,
-    s: State,
-) -> io::Result<State> {
-    match command {
-        Command::Fresh => {
-            answer::fresh(rt)?;
-            Ok(fresh())
-        }
-        Command::Subscribe(id, rrtype, rrclass, n) => {
-            let name = part(bytes, 0, n);
-            subscribe(
-                rt,
-                name,
-                id,
-                rrtype,
-                rrclass,
-                store(first, second, s),
-                subs,
-                s,
-            )
-        }
-        Command::Unsubscribe(id) => unsubscribe(rt, id, subs, s),
-        Command::Batch(n) => {
-            if s.second {
-                return batch(rt, part(bytes, 0, n), second, first, subs, s);
-            }
-            batch(rt, part(bytes, 0, n), first, second, subs, s)
-        }
-        Command::Unreadable => {
-            answer::unreadable(rt)?;
-            Ok(s)
+impl Run {
+    pub fn new() -> Run {
+        Run {
+            first: [0; zone::AREA],
+            second: [0; zone::AREA],
+            subs: [0; session::AREA],
+            records: 0,
+            in_second: false,
+            live: 0,
         }
     }
-}
 
-// Carries the line's command out, and writes its answer.
-pub fn run_line(
-    rt: &impl Print,
-    line: &[u8],
-    first: &mut zone::Area,
-    second: &mut zone::Area,
-    subs: &mut session::Area,
-    s: State,
-) -> io::Result<State> {
-    let mut bytes: Bytes = [0u8; 16384];
-    let command = read_command(line, &mut bytes);
-    run(rt, command, &bytes, first, second, subs, s)
+    fn fresh(&mut self, rt: &impl Print) -> io::Result<()> {
+        self.records = 0;
+        self.in_second = false;
+        self.live = 0;
+        answer::fresh(rt)
+    }
+
+    fn store(&self) -> Store<'_> {
+        let area = if self.in_second {
+            &self.second
+        } else {
+            &self.first
+        };
+        Store {
+            area,
+            count: self.records,
+        }
+    }
+
+    // The subscription, and the first PUSH of it.
+    fn subscribe(&mut self, rt: &impl Print, id: u16, question: Question) -> io::Result<()> {
+        let mut out = [0u8; OUTPUT];
+        let n = notify::write_first(self.store(), question, &mut out, 0);
+        self.live = session::append(&mut self.subs, self.live, id, question);
+        answer::subscribed(rt, part(&out, 0, n))
+    }
+
+    fn unsubscribe(&mut self, rt: &impl Print, id: u16) -> io::Result<()> {
+        self.live = session::remove(&mut self.subs, self.live, id);
+        answer::unsubscribed(rt)
+    }
+
+    fn batch(&mut self, rt: &impl Print, bytes: &[u8]) -> io::Result<()> {
+        let count = self.records;
+        let subs = Subscriptions {
+            area: &self.subs,
+            count: self.live,
+        };
+        let stored = if self.in_second {
+            let old = Store {
+                area: &self.second,
+                count,
+            };
+            batch(rt, bytes, old, &mut self.first, subs)?
+        } else {
+            let old = Store {
+                area: &self.first,
+                count,
+            };
+            batch(rt, bytes, old, &mut self.second, subs)?
+        };
+        if let Some(records) = stored {
+            self.records = records;
+            self.in_second = !self.in_second;
+        }
+        Ok(())
+    }
+
+    // Carries the line's command out, and writes its answer.
+    pub fn run_line(&mut self, rt: &impl Print, line: &[u8]) -> io::Result<()> {
+        let mut bytes: Bytes = [0; 16384];
+        match read_command(line, &mut bytes) {
+            Some(Command::Fresh) => self.fresh(rt),
+            Some(Command::Subscribe(id, question)) => self.subscribe(rt, id, question),
+            Some(Command::Unsubscribe(id)) => self.unsubscribe(rt, id),
+            Some(Command::Batch(edits)) => self.batch(rt, edits),
+            None => answer::unreadable(rt),
+        }
+    }
 }
