@@ -1,29 +1,28 @@
 -- Laws of the table's changes: a block written and read back, one subscription more, those of an ID gone.
-use Prim.Native.Nat.{ℕ, zero, suc, ◌+◌, ◌-◌, ◌*◌, min, ◌≤◌, ◌<◌, ◌^◌}
+use Prim.Native.Nat.{ℕ, suc, ◌+◌, ◌-◌, ◌*◌, min, ◌≤◌, ◌<◌, ◌^◌}
 use mathlib.Core.Path.{◌≡◌, refl, sym, ap, ap₂, ◌∙◌}
-use mathlib.Core.Bool.{Bool, false, cond, not, ◌||◌}
+use mathlib.Core.Bool.{Bool, true, false, cond, not, ◌||◌}
 use mathlib.Core.List.{List, [], ◌∷◌, ◌++◌, map, append_assoc, map-append}
 use native.Mathlib.Nat.{add-zero}
 use native.Mathlib.Numerals.{add-one}
 use native.Mathlib.Omega.{arith}
-use lib.ListN.{length, take, drop, get_or, set, length-append, length-drop}
-use lib.Seq.{sets, take_at, drop_at, drop-drop, length-take-le}
+use lib.ListN.{length, take, drop, get_or, set, length-append, length-take, length-drop, drop_of_length-le}
+use lib.Seq.{sets, take_at, take-take, drop_at, drop-drop, drop-cons, length-take-le}
+use lib.Dec.{eqb}
 use borrow.Author.Tests.{le-ltb, lt-leb}
+use Rattle.std.proofs.lemmas.List.{get_or-take}
 use Rattle.wire.specs.Field.{field, octets}
 use Rattle.wire.specs.Name.{max_name}
 use Rattle.wire.specs.Part.{part}
 use Rattle.wire.proofs.Fields.{length-octets, field-octets, field-one}
 use Rattle.wire.proofs.Writes.{sets-append, sets-front, take-sets, drop-sets-add}
 use Rattle.table.specs.Blocks.{blocks, cut, slid, text_at}
-use Rattle.table.proofs.Blocks.{blocks-suc, blocks-past, blocks-slid, map-cut}
-use Rattle.zone.specs.Lists.{keep, only_if}
+use Rattle.table.proofs.Blocks.{blocks-suc, blocks-past, blocks-slid, take-cut, drop-cut, map-cut}
+use Rattle.zone.specs.Lists.{only_if}
 use Rattle.zone.specs.Match.{Subscription}
-use Rattle.session.specs.Subscriptions.{max_subscriptions, holds_id, uses_id, is_full, without}
+use Rattle.session.specs.Subscriptions.{max_subscriptions, is_full, without}
 use Rattle.session.specs.Table.{block_size, area_size, sub_of, sub_octets, subscriptions_of, subscription, appended}
-use Rattle.session.proofs.Table.{length_subscriptions_of, subscriptions_of-few, is_some_position, is_full-count}
-use Rattle.session.proofs.Held.{without-unused}
-use Rattle.std.specs.Prelude.{Option, Some, None, is_some, position}
-use Rattle.std.proofs.lemmas.List.Quantifiers.{position-Some}
+use Rattle.session.proofs.Table.{length_subscriptions_of, subscriptions_of-at, subscriptions_of-few, is_full-count}
 
 -- ---- writes in a row
 
@@ -144,45 +143,79 @@ pub gap-closed : (n : ℕ) (a b : List ℕ) (i : ℕ) → i < n → n ≤ max_su
     → blocks block_size (n - 1) b ≡ cut i (blocks block_size n a)
 gap-closed n a b i h k l e = ap (blocks block_size (n - 1)) e ∙ blocks-slid block_size n a i h (omega arith)
 
--- A member that isn't kept goes.
-keep-cut : (p : Subscription → Bool) (i : ℕ) (subs : List Subscription) (d : Subscription) → p (get_or subs i d) ≡ false
-    → keep p (cut i subs) ≡ keep p subs
-unfolding cut
-keep-cut p i [] d h = refl
-keep-cut p zero (s ∷ subs) d h = sym (ap (λ (b : Bool). only_if b s (keep p subs)) h)
-keep-cut p (suc i) (s ∷ subs) d h = ap (only_if (p s) s) (keep-cut p i subs d h)
-
--- The loop: with those of the ID that are still there gone, too, what is to be left is left.
-pub record Swept (id : ℕ) (subs : List Subscription) (n : ℕ) (a : List ℕ) : Type 0 where
-  pub many : n ≤ max_subscriptions
-  pub rest : without id subs ≡ without id (subscriptions_of n a)
-
-pub swept_none : (id count n : ℕ) (a : List ℕ) → n ≡ min count max_subscriptions → Swept id (subscriptions_of count a) n a
+live : (count : ℕ) (a : List ℕ) (n : ℕ) → n ≡ min count max_subscriptions → subscriptions_of n a ≡ subscriptions_of count a
 unfolding subscriptions_of
+live count a n e =
+    let m : min n max_subscriptions ≡ min count max_subscriptions = omega arith in
+    ap (λ (k : ℕ). map sub_of (blocks block_size k a)) m
+
+-- The loop: the first i are as they were, and those behind them are without the ones of the ID.
+pub record Swept (id : ℕ) (all : List Subscription) (n : ℕ) (a : List ℕ) (i : ℕ) : Type 0 where
+  pub few : i ≤ n
+  pub many : n ≤ max_subscriptions
+  pub front : take i (subscriptions_of n a) ≡ take i all
+  pub rest : drop i (subscriptions_of n a) ≡ without id (drop i all)
+
+pub swept_none : (id count n : ℕ) (a : List ℕ) → n ≡ min count max_subscriptions → Swept id (subscriptions_of count a) n a n
+unfolding without
 swept_none id count n a e =
-    let m : min count max_subscriptions ≡ min n max_subscriptions = omega arith in
-    record { many = omega arith; rest = ap (λ (k : ℕ). without id (map sub_of (blocks block_size k a))) m }
+    let none : (k : ℕ) → min k max_subscriptions ≤ n → drop n (subscriptions_of k a) ≡ [] =
+    λ k h. drop_of_length-le (subscriptions_of k a) {i = n} (omega (arith, length_subscriptions_of k a, h)) in
+    record {
+      few = omega arith;
+      many = omega arith;
+      front = ap (take n) (live count a n e);
+      rest = none n (omega arith) ∙ sym (ap (without id) (none count (omega arith)));
+    }
 
-module _ (id : ℕ) (subs : List Subscription) (n : ℕ) (a : List ℕ) (d : Swept id subs n a) (o : Option ℕ) (e : o ≡ position (holds_id id) (subscriptions_of n a)) where
-  abbrev all : List Subscription
-  all = subscriptions_of n a
+module _ (id : ℕ) (all : List Subscription) (n : ℕ) (a : List ℕ) (j : ℕ) (d : Swept id all n a j) (i : ℕ) (q : suc i ≡ j)
+    (o : List ℕ) (p : o ≡ part a (i * block_size) block_size) (r : Bool) (f : r ≡ eqb (sub_of o).id id) where
+  abbrev now : List Subscription
+  now = subscriptions_of n a
 
-  pub swept_all : o ≡ None → all ≡ without id subs
-  unfolding uses_id
-  swept_all f = sym (d.rest ∙ without-unused id all (sym (is_some_position (holds_id id) all) ∙ ap is_some (sym e ∙ f)))
+  abbrev here : Subscription
+  here = get_or now i (sub_of [])
 
-  module _ (i : ℕ) (f : o ≡ Some i) where
-    pub place-inside : i < n
-    place-inside = let h = position-Some (holds_id id) all i (sub_of []) (sym e ∙ f) in omega (arith, h.0, length_subscriptions_of n a)
+  inside : i < length now
+  inside = omega (arith, d.few, d.many, length_subscriptions_of n a)
 
-    pub swept-gone : (m : ℕ) (b : List ℕ) → m ≡ n - 1 → blocks block_size (n - 1) b ≡ cut i (blocks block_size n a) → Swept id subs m b
-    unfolding without
-    swept-gone m b g k =
-        let h = position-Some (holds_id id) all i (sub_of []) (sym e ∙ f) in
-        let left : subscriptions_of m b ≡ cut i all =
-        subscriptions_of-few m b (omega (arith, d.many)) ∙ ap (λ (j : ℕ). map sub_of (blocks block_size j b)) g ∙ ap (map sub_of) k
-        ∙ map-cut sub_of i (blocks block_size n a) ∙ ap (cut i) (sym (subscriptions_of-few n a d.many)) in
-        record {
-          many = omega (arith, d.many);
-          rest = d.rest ∙ sym (ap (without id) left ∙ keep-cut (λ (s : Subscription). not (holds_id id s)) i all (sub_of []) (ap not h.1));
-        }
+  -- The front, a member shorter, and that member.
+  before : take i now ≡ take i all
+  before = sym (take-take i j now (omega arith)) ∙ ap (take i) d.front ∙ take-take i j all (omega arith)
+
+  there : get_or all i (sub_of []) ≡ here
+  there =
+      sym (get_or-take j all i (sub_of []) (omega arith)) ∙ ap (λ (l : List Subscription). get_or l i (sub_of [])) (sym d.front)
+      ∙ get_or-take j now i (sub_of []) (omega arith)
+
+  -- Whether it keeps its place.
+  next : without id (drop i all) ≡ only_if (not r) here (drop (suc i) now)
+  unfolding without
+  next =
+      let e : sub_of o ≡ here = ap sub_of p ∙ sym (subscriptions_of-at n a i (omega (arith, d.few, d.many))) in
+      let long : i < length all = omega (arith, inside, ap length d.front, length-take j now, length-take j all) in
+      ap (without id) (drop-cons all i (sub_of []) long)
+      ∙ ap (λ (s : Subscription). only_if (not (eqb s.id id)) s (without id (drop (suc i) all))) there
+      ∙ ap (λ (b : Bool). only_if (not b) here (without id (drop (suc i) all))) (ap (λ (s : Subscription). eqb s.id id) (sym e) ∙ sym f)
+      ∙ ap (only_if (not r) here) (ap (λ (k : ℕ). without id (drop k all)) q ∙ sym d.rest ∙ ap (λ (k : ℕ). drop k now) (sym q))
+
+  pub swept-kept : r ≡ false → Swept id all n a i
+  swept-kept g = record {
+    few = omega (arith, d.few);
+    many = d.many;
+    front = before;
+    rest = drop-cons now i (sub_of []) inside ∙ sym (next ∙ ap (λ (b : Bool). only_if (not b) here (drop (suc i) now)) g);
+  }
+
+  pub swept-gone : r ≡ true → (m : ℕ) (b : List ℕ) → m ≡ n - 1 → blocks block_size (n - 1) b ≡ cut i (blocks block_size n a)
+      → Swept id all m b i
+  swept-gone g m b e k =
+      let left : subscriptions_of m b ≡ cut i now =
+      subscriptions_of-few m b (omega (arith, d.many)) ∙ ap (λ (j : ℕ). map sub_of (blocks block_size j b)) e ∙ ap (map sub_of) k
+      ∙ map-cut sub_of i (blocks block_size n a) ∙ ap (cut i) (sym (subscriptions_of-few n a d.many)) in
+      record {
+        few = omega (arith, d.few);
+        many = omega (arith, d.many);
+        front = ap (take i) left ∙ take-cut i now ∙ before;
+        rest = ap (drop i) left ∙ drop-cut i now ∙ sym (next ∙ ap (λ (b : Bool). only_if (not b) here (drop (suc i) now)) g);
+      }

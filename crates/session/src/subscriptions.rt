@@ -7,7 +7,7 @@ ghost use Rattle.wire.specs.Name.{max_name};
 ghost use Rattle.table.specs.Blocks.{blocks, cut};
 ghost use Rattle.zone.specs.Lists.{any_of};
 ghost use Rattle.zone.specs.Match.{Subscription, matches as matching, wanted as wanted_by};
-ghost use Rattle.session.specs.Subscriptions.{max_subscriptions, holds_id, uses_id, same_question, asks_already, is_full, without};
+ghost use Rattle.session.specs.Subscriptions.{max_subscriptions, uses_id, same_question, asks_already, is_full, without};
 ghost use Rattle.session.specs.Table.{block_size, sub_of, sub_octets, subscriptions_of, subscriptions_in, subscription_for, record_for, appended, Tests};
 
 use dso::Question;
@@ -194,7 +194,8 @@ pub fn append(area: &mut Area, count: usize, id: u16, question: Question<'_>) ->
 
 // ---- fewer
 
-// Block i of n is gone: those behind it move down by one. How many are left.
+// Block i of n is gone: those behind it move down by one. How many are left. Out of line: the loop that looks for it stays small.
+#[inline(never)]
 fn close_gap(area: &mut Area, i: usize, n: usize) -> usize
     requires { (i < n) × (n ≤ max_subscriptions) }
     ensures { (result ≡ n - 1) × (blocks block_size (n - 1) area.new ≡ cut i (blocks block_size n area.old)) }
@@ -204,21 +205,16 @@ fn close_gap(area: &mut Area, i: usize, n: usize) -> usize
     n - 1
 }
 
-// Where the first stands that holds a message ID.
-#[tactic(auto, unfolding(crate::specs::Table::sub_of))]
-fn place_of(area: &Area, count: usize, id: u16) -> Option<usize>
-    ensures { result ≡ position (holds_id id) (subscriptions_of count area.now) }
-{
-    Subscriptions { area, count }.position(|b| b.has_id(id))
-}
-
-// Without those of an ID: in a run there is at most one. How many are left.
+// Without those of an ID: in a run there is at most one. How many are left. From the last on: what moves down was looked at.
 pub fn remove(area: &mut Area, count: usize, id: u16) -> usize
     ensures { subscriptions_of result area.new ≡ without id (subscriptions_of count area.old) }
 {
     let mut n = count.min(SUBSCRIPTIONS);
-    while let Some(i) = place_of(area, n, id) {
-        n = close_gap(area, i, n);
+    for i in (0..n).rev() {
+        let octets = table::part(area, i * BLOCK, BLOCK);
+        if (Block { octets }).has_id(id) {
+            n = close_gap(area, i, n);
+        }
     }
     n
 }
