@@ -1,11 +1,11 @@
 // One line of input, answered.
-ghost use Rattle.std.specs.Prelude.{◌≡◌, true};
+ghost use Rattle.std.specs.Prelude.{◌≡◌, true, Some};
 ghost use Rattle.std.proofs.Math.Pow.{are_bytes};
 ghost use Rattle.script.specs.Line.{octets_in};
 ghost use Rattle.script.specs.Code.{command_line};
 ghost use Rattle.server.specs.Memory.{memory_of, state_of};
 ghost use Rattle.transcript.specs.Responses.{step_of, response_to, Tells};
-ghost use Rattle.replay.specs.Performing.{told_of, Performs};
+ghost use Rattle.replay.specs.Performing.{Performs};
 
 use script::{Bytes, Command, read_line};
 use server::{Name, Outcome, Server, close, open, tick};
@@ -13,31 +13,13 @@ use server_batch::batch;
 use server_message::message;
 use service::SessionNumber;
 use table::part;
-use transcript::{Answered, Output, Text, write_response};
-
-// The server's numbers as they are then, and what came of the line.
-#[derive(Clone, Copy)]
-pub struct Performed {
-    pub server: Server,
-    pub answer: Answered,
-}
+use transcript::{Output, Text, write_response};
 
 // The server's numbers as they are then, and how many octets of lines stand at the front of the text.
 #[derive(Clone, Copy)]
 pub struct Response {
     pub server: Server,
     pub length: usize,
-}
-
-fn told(outcome: Outcome) -> Performed
-    ensures { result ≡ told_of outcome }
-{
-    let server = outcome.server;
-    let answer = outcome.answer;
-    Performed {
-        server,
-        answer: Answered::Told(answer),
-    }
 }
 
 // Makes the call that a line is.
@@ -53,17 +35,17 @@ fn perform(
     command: Command,
     bytes: &Bytes,
     out: &mut Output,
-) -> Performed
+) -> Outcome
     ensures { let before = memory_of zone.now first.old second.old s0.old s1.old s2.old s3.old in
         let after = memory_of zone.now first.new second.new s0.new s1.new s2.new s3.new in
-        let line = command_line command bytes.now in
+        let line = command_line (Some command) bytes.now in
         (small : are_bytes (octets_in line) ≡ true)
         → Performs server result after out.new (step_of (state_of server before) out.old line small) }
 {
     match command {
-        Command::Open(t) => told(open(server, t)),
-        Command::Close(t, s) => told(close(server, t, SessionNumber(s))),
-        Command::Message(t, s, n) => told(message(
+        Command::Open(t) => open(server, t),
+        Command::Close(t, s) => close(server, t, SessionNumber(s)),
+        Command::Message(t, s, n) => message(
             server,
             zone,
             first,
@@ -76,8 +58,8 @@ fn perform(
             SessionNumber(s),
             part(bytes, 0, n),
             out,
-        )),
-        Command::Batch(t, n) => told(batch(
+        ),
+        Command::Batch(t, n) => batch(
             server,
             zone,
             first,
@@ -89,12 +71,8 @@ fn perform(
             t,
             part(bytes, 0, n),
             out,
-        )),
-        Command::Tick(t) => told(tick(server, t)),
-        Command::Unreadable => Performed {
-            server,
-            answer: Answered::Unread,
-        },
+        ),
+        Command::Tick(t) => tick(server, t),
     }
 }
 
@@ -117,14 +95,17 @@ pub fn respond(
         Tells server result.server after out.new text.old text.new result.length
         (response_to (state_of server before) out.old line.now) }
 {
-    let command = read_line(line, bytes);
+    let Some(command) = read_line(line, bytes) else {
+        return Response {
+            server,
+            length: write_response(None, None, out, text),
+        };
+    };
     let done = perform(
         server, zone, first, second, s0, s1, s2, s3, command, bytes, out,
     );
-    let answer = done.answer;
-    let next = done.server;
     Response {
-        server: next,
-        length: write_response(command, answer, out, text),
+        server: done.server,
+        length: write_response(Some(command), Some(done.answer), out, text),
     }
 }

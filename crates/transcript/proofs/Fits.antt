@@ -1,20 +1,20 @@
 -- The lines of any answer fit into the memory that the program lends for them.
-use Prim.Native.Nat.{ℕ, ◌+◌, ◌-◌, ◌*◌, ◌≤◌, min}
-use mathlib.Core.Path.{◌≡◌, refl, ap, ◌∙◌}
+use Prim.Native.Nat.{ℕ, ◌+◌, ◌-◌, ◌*◌, ◌≤◌}
+use mathlib.Core.Path.{◌≡◌}
 use mathlib.Core.Bool.{Bool, true, false, cond}
-use mathlib.Core.List.{List, [], ◌∷◌, ◌++◌}
-use mathlib.Core.Option.{Option, none, some}
+use mathlib.Core.List.{List, [], ◌∷◌}
 use native.Mathlib.Omega.{arith}
-use lib.ListN.{length, take, drop, length-append, length-take, length-drop}
+use lib.ListN.{length, length-append, length-take, length-drop}
+use Rattle.std.specs.Prelude.{Option, Some, None}
 use Rattle.wire.specs.Part.{part}
 use Rattle.service.specs.Answer as Service
 use Rattle.service.specs.Answer.{answer_number}
 use Rattle.service.specs.Checks.{output_size, least_output}
-use Rattle.server.specs.Answers.{answer_of, counts_of, flags_of}
+use Rattle.server.specs.Answers.{answer_of}
 use Rattle.server.specs.declared.answer.Answer.{Answer}
 use Rattle.server.specs.declared.answer.Answer.TheVariants.{Done, Opened, Ended as Ticked, Sent, NotOurs, Aborted, Reconfirm, Refused}
 use Rattle.script.specs.Output.{line_octets}
-use Rattle.script.specs.Code.{Written, carried}
+use Rattle.script.specs.Code.{Written}
 use Rattle.script.specs.declared.verb.Verb.{Verb}
 use Rattle.script.proofs.Writing.{length-line}
 use Rattle.transcript.specs.declared.note.Note.{Note}
@@ -42,14 +42,14 @@ use Rattle.transcript.specs.Lines.{
 length_part : (out : List ℕ) (a n : ℕ) → length (part out a n) ≤ length out - a
 length_part out a n = simp (length-take, length-drop) (omega arith)
 
-length-note : (v : Verb) (out : List ℕ) (s : ℕ) (x : Note) → length (note_line v out s x) ≤ 50 + 2 * (length out - s * output_size)
+length-note : (v : Option Verb) (out : List ℕ) (s : ℕ) (x : Note) → length (note_line v out s x) ≤ 50 + 2 * (length out - s * output_size)
 unfolding note_line
 length-note v out s Quiet = omega arith
 length-note v out s (Bytes n) =
-    omega (arith, length-line v 2 (some s) true (part out (s * output_size) n), length_part out (s * output_size) n)
-length-note v out s Ended = omega (arith, length-line v 4 (some s) false [])
+    omega (arith, length-line v 2 (Some s) (Some (part out (s * output_size) n)), length_part out (s * output_size) n)
+length-note v out s Ended = omega (arith, length-line v 4 (Some s) None)
 
-module _ (v : Verb) (out : List ℕ) (h : length out ≤ least_output) where
+module _ (v : Option Verb) (out : List ℕ) (h : length out ≤ least_output) where
   length-notes : (a b c d : Note) → length (note_lines v out 0 (a ∷ b ∷ c ∷ d ∷ [])) ≤ text_room
   unfolding note_lines
   length-notes a b c d =
@@ -75,21 +75,21 @@ module _ (v : Verb) (out : List ℕ) (h : length out ≤ least_output) where
   either true x y p q = p
   either false x y p q = q
 
-  length-bare : (n : ℕ) (s : Option ℕ) → length (line_octets v n s none) ≤ text_room
-  length-bare n s = omega (arith, length-line v n s false [])
+  length-bare : (n : ℕ) (s : Option ℕ) → length (line_octets v n s None) ≤ text_room
+  length-bare n s = omega (arith, length-line v n s None)
 
   length-all : (a : Answer) → length (lines_for_all v (answer_of a) out) ≤ text_room
   unfolding lines_for_all
   length-all a =
-      either (all_quiet (notes_of (answer_of a))) (line_octets v (answer_number (answer_of a)) none none) (note_lines v out 0 (notes_of (answer_of a)))
-      (length-bare (answer_number (answer_of a)) none) (length-noted a)
+      either (all_quiet (notes_of (answer_of a))) (line_octets v (answer_number (answer_of a)) None None) (note_lines v out 0 (notes_of (answer_of a)))
+      (length-bare (answer_number (answer_of a)) None) (length-noted a)
 
   length-with : (n : ℕ) (s own : Option ℕ) (c : Option (List ℕ)) → length (line_octets v n s (bytes_for own c out)) ≤ text_room
   unfolding bytes_for sent_to
-  length-with n s none c = length-bare n s
-  length-with n s (some k) none = length-bare n s
-  length-with n s (some k) (some counts) =
-      omega (arith, length-line v n s true (part out (k * output_size) (count_for counts k)), length_part out (k * output_size) (count_for counts k))
+  length-with n s None c = length-bare n s
+  length-with n s (Some k) None = length-bare n s
+  length-with n s (Some k) (Some counts) =
+      omega (arith, length-line v n s (Some (part out (k * output_size) (count_for counts k))), length_part out (k * output_size) (count_for counts k))
 
   length-one : (own : Option ℕ) (a : Service.Answer) → length (line_for_one v own a out) ≤ text_room
   unfolding line_for_one
@@ -102,7 +102,7 @@ module _ (v : Verb) (out : List ℕ) (h : length out ≤ least_output) where
 
 -- ---- so they are written whole
 
-module _ (v : Verb) (own : Option ℕ) (a : Answer) (out o p : List ℕ) (r : ℕ) (h : length out ≤ least_output) (k : text_room ≤ length o) (b : Bool) (e : b ≡ tells_all v) where
+module _ (v : Option Verb) (own : Option ℕ) (a : Answer) (out o p : List ℕ) (r : ℕ) (h : length out ≤ least_output) (k : text_room ≤ length o) (b : Bool) (e : b ≡ tells_all v) where
   whole : Written o 0 (lines_of v own (answer_of a) out) p r → Printed o (lines_of v own (answer_of a) out) p r
   whole w = record { whole = w.whole; count = omega (arith, w.next, length-lines v out h own a) }
 
@@ -119,3 +119,5 @@ module _ (v : Verb) (own : Option ℕ) (a : Answer) (out o p : List ℕ) (r : �
 
   pub printed-one : b ≡ false → Written o 0 (line_for_one v own (answer_of a) out) p r → Printed o (lines_of v own (answer_of a) out) p r
   printed-one g w = whole (as_one g w)
+
+pub ruleset printing = (printed-all, printed-one)

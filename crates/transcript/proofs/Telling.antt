@@ -1,28 +1,22 @@
 -- The lines of an answer as they are written, one behind another.
-use Prim.Native.Nat.{ℕ, zero, suc, ◌+◌, ◌*◌, ◌≤◌, min}
-use mathlib.Core.Path.{◌≡◌, refl, sym, ap, ap₂, ◌∙◌, subst}
-use mathlib.Core.Bool.{Bool, true, false, cond}
+use Prim.Native.Nat.{ℕ, zero, suc, ◌+◌, ◌*◌, ◌≤◌, ◌<◌}
+use mathlib.Core.Path.{◌≡◌, refl, sym, ap, ◌∙◌, subst}
+use mathlib.Core.Bool.{Bool, true, false}
 use mathlib.Core.List.{List, [], ◌∷◌, ◌++◌, append-nil, append_assoc}
-use mathlib.Core.Option.{Option, none, some}
 use native.Mathlib.Numerals.{add-one}
 use native.Mathlib.Omega.{arith}
-use lib.ListN.{length}
-use lib.Seq.{length-sets}
+use lib.ListN.{length, take, get_or}
+use lib.Seq.{length-sets, length-take-le, take-suc, take_all}
+use Rattle.std.specs.Prelude.{Option, Some, None}
 use Rattle.wire.specs.Part.{part}
 use Rattle.service.specs.Answer.{Answer, answer_number}
 use Rattle.service.specs.Checks.{output_size}
-use Rattle.server.specs.Answers.{counts_of}
-use Rattle.server.specs.declared.answer.Counts.{Counts}
 use Rattle.script.specs.Output.{line_octets}
-use Rattle.script.specs.Code.{Written, session_of}
+use Rattle.script.specs.Code.{Written}
 use Rattle.script.specs.declared.verb.Verb.{Verb}
-use Rattle.script.specs.declared.writer.SessionField.{SessionField}
-use Rattle.script.specs.declared.writer.SessionField.TheVariants.{Session, NoSession}
 use Rattle.script.proofs.Writing.{written_then}
 use Rattle.transcript.specs.declared.note.Note.{Note}
 use Rattle.transcript.specs.declared.note.Note.TheVariants.{Quiet, Bytes, Ended}
-use Rattle.transcript.specs.declared.own.Sending.{Sending}
-use Rattle.transcript.specs.declared.own.Sending.TheVariants.{Counted, Nothing}
 use Rattle.transcript.specs.Lines.{
   notes_of,
   all_quiet,
@@ -31,7 +25,6 @@ use Rattle.transcript.specs.Lines.{
   lines_for_all,
   session_named,
   counts_in,
-  sending_of,
   count_for,
   sent_to,
   bytes_for,
@@ -44,45 +37,57 @@ written-within o at a p r w = omega (arith, w.next, ap length w.whole ∙ length
 
 -- ---- one session
 
-module _ (v : Verb) (out : List ℕ) (s : ℕ) (note : Note) (o : List ℕ) (at : ℕ) where
+module _ (v : Option Verb) (out : List ℕ) (s : ℕ) (note : Note) (o : List ℕ) (at : ℕ) where
   pub note-quiet : note ≡ Quiet → at ≤ length o → Written o at (note_line v out s note) o at
   unfolding note_line
   note-quiet e h = rw e (record { whole = refl; next = omega arith })
 
   module _ (p : List ℕ) (r : ℕ) where
     pub note-bytes : (n : ℕ) → note ≡ Bytes n → (l : List ℕ) → l ≡ part out (s * output_size) n
-        → Written o at (line_octets v 2 (some s) (some l)) p r → Written o at (note_line v out s note) p r
+        → Written o at (line_octets v 2 (Some s) (Some l)) p r → Written o at (note_line v out s note) p r
     unfolding note_line
     note-bytes n e l f w = rw (e, ← f) w
 
-    pub note-ended : note ≡ Ended → Written o at (line_octets v 4 (some s) none) p r → Written o at (note_line v out s note) p r
+    pub note-ended : note ≡ Ended → Written o at (line_octets v 4 (Some s) None) p r → Written o at (note_line v out s note) p r
     unfolding note_line
     note-ended e w = rw e w
 
 -- ---- several
 
-pub two-written : (v : Verb) (out : List ℕ) (s : ℕ) (a b : Note) (o : List ℕ) (at : ℕ) (p : List ℕ) (r : ℕ) → Written o at (note_line v out s a) p r
-    → (q : List ℕ) (t : ℕ) → Written p r (note_line v out (s + 1) b) q t → Written o at (note_lines v out s (a ∷ b ∷ [])) q t
+lines-behind : (v : Option Verb) (out : List ℕ) (s : ℕ) (l m : List Note) → note_lines v out s (l ++ m) ≡ note_lines v out s l ++ note_lines v out (s + length l) m
 unfolding note_lines
-two-written v out s a b o at p r w q t x =
-    let same : note_line v out s a ++ note_line v out (s + 1) b ≡ note_line v out s a ++ (note_line v out (suc s) b ++ []) =
-    ap (λ (l : List ℕ). note_line v out s a ++ l) (ap (λ (k : ℕ). note_line v out k b) (add-one s) ∙ sym (append-nil (note_line v out (suc s) b))) in
-    subst (λ (l : List ℕ). Written o at l q t) same (written_then o at (note_line v out s a) p r w (note_line v out (s + 1) b) q t x)
+lines-behind v out s [] m = ap (λ (k : ℕ). note_lines v out k m) (omega arith)
+lines-behind v out s (x ∷ l) m =
+    ap (λ (k : List ℕ). note_line v out s x ++ k) (lines-behind v out (suc s) l m ∙ ap (λ (k : ℕ). note_lines v out (suc s) l ++ note_lines v out k m) (omega arith))
+    ∙ sym (append_assoc (note_line v out s x) (note_lines v out (suc s) l) (note_lines v out (s + suc (length l)) m))
 
-pub notes-written : (v : Verb) (out : List ℕ) (w x y z : Note) (o : List ℕ) (p : List ℕ) (r : ℕ) → Written o 0 (note_lines v out 0 (w ∷ x ∷ [])) p r
-    → (q : List ℕ) (t : ℕ) → Written p r (note_lines v out 2 (y ∷ z ∷ [])) q t → Written o 0 (note_lines v out 0 (w ∷ x ∷ y ∷ z ∷ [])) q t
+-- The lines of the first i are written.
+pub lines-none : (v : Option Verb) (out : List ℕ) (notes : List Note) (o : List ℕ) → Written o 0 (note_lines v out 0 (take 0 notes)) o 0
 unfolding note_lines
-notes-written v out w x y z o p r f q t g =
-    let a : List ℕ = note_line v out 0 w in
-    let b : List ℕ = note_line v out 1 x in
-    let c : List ℕ = note_line v out 2 y ++ (note_line v out 3 z ++ []) in
-    let same : (a ++ (b ++ [])) ++ c ≡ a ++ (b ++ c) = simp (append_assoc, append-nil) in
-    subst (λ (l : List ℕ). Written o 0 l q t) same (written_then o 0 (a ++ (b ++ [])) p r f c q t g)
+lines-none v out notes o = record { whole = refl; next = omega arith }
+
+pub lines-turn : (v : Option Verb) (out : List ℕ) (notes : List Note) (o : List ℕ) (i : ℕ) (p : List ℕ) (r : ℕ) → Written o 0 (note_lines v out 0 (take i notes)) p r
+    → i < length notes → (x : Note) → x ≡ get_or notes i x → (q : List ℕ) (t : ℕ) → Written p r (note_line v out i x) q t → Written o 0 (note_lines v out 0 (take (i + 1) notes)) q t
+unfolding note_lines
+lines-turn v out notes o i p r w h x e q t y =
+    let n : 0 + length (take i notes) ≡ i = omega (arith, length-take-le i notes (omega arith)) in
+    let one : note_line v out i x ≡ note_lines v out (0 + length (take i notes)) (x ∷ []) =
+    sym (append-nil (note_line v out i x)) ∙ ap (λ (k : ℕ). note_line v out k x ++ []) (sym n) in
+    let more : take i notes ++ (x ∷ []) ≡ take (i + 1) notes =
+    ap (λ (z : Note). take i notes ++ (z ∷ [])) e ∙ sym (take-suc notes i x h) ∙ ap (λ (k : ℕ). take k notes) (sym (add-one i)) in
+    let same : note_lines v out 0 (take i notes) ++ note_line v out i x ≡ note_lines v out 0 (take (i + 1) notes) =
+    ap (λ (l : List ℕ). note_lines v out 0 (take i notes) ++ l) one ∙ sym (lines-behind v out 0 (take i notes) (x ∷ []))
+    ∙ ap (note_lines v out 0) more in
+    subst (λ (l : List ℕ). Written o 0 l q t) same (written_then o 0 (note_lines v out 0 (take i notes)) p r w (note_line v out i x) q t y)
+
+pub lines-whole : (v : Option Verb) (out : List ℕ) (notes : List Note) (o : List ℕ) (i : ℕ) (p : List ℕ) (r : ℕ) → Written o 0 (note_lines v out 0 (take i notes)) p r
+    → length notes ≤ i → Written o 0 (note_lines v out 0 notes) p r
+lines-whole v out notes o i p r w h = subst (λ (l : List Note). Written o 0 (note_lines v out 0 l) p r) (take_all i notes h) w
 
 -- ---- batch and tick
 
-module _ (v : Verb) (a : Answer) (out : List ℕ) (n : List Note) (e : n ≡ notes_of a) (b : Bool) (f : b ≡ all_quiet n) (o p : List ℕ) (r : ℕ) where
-  pub all-silent : b ≡ true → (k : ℕ) → k ≡ answer_number a → Written o 0 (line_octets v k none none) p r → Written o 0 (lines_for_all v a out) p r
+module _ (v : Option Verb) (a : Answer) (out : List ℕ) (n : List Note) (e : n ≡ notes_of a) (b : Bool) (f : b ≡ all_quiet n) (o p : List ℕ) (r : ℕ) where
+  pub all-silent : b ≡ true → (k : ℕ) → k ≡ answer_number a → Written o 0 (line_octets v k None None) p r → Written o 0 (lines_for_all v a out) p r
   unfolding lines_for_all
   all-silent h k g w = rw (← e, ← f, h, ← g) w
 
@@ -92,7 +97,7 @@ module _ (v : Verb) (a : Answer) (out : List ℕ) (n : List Note) (e : n ≡ not
 
 -- ---- open, close and msg
 
--- Past the last session there is none.
+-- Past the last session there is None.
 pub counts_past : (a b c d s : ℕ) → 4 ≤ s → 0 ≡ count_for (a ∷ b ∷ c ∷ d ∷ []) s
 unfolding count_for
 counts_past a b c d zero h = absurd (omega arith)
@@ -109,31 +114,17 @@ pub sent-past : (a b c d s : ℕ) (out l : List ℕ) → 4 ≤ s → l ≡ part 
 unfolding sent_to
 sent-past a b c d s out l h f = f ∙ ap (part out (s * output_size)) (counts_past a b c d s h)
 
-module _ (v : Verb) (own : Option ℕ) (a : Answer) (out : List ℕ) (k : ℕ) (e : k ≡ answer_number a) (q : Option ℕ) (g : q ≡ session_named own a) (o p : List ℕ) (r : ℕ) where
-  line-with : (c : Option (List ℕ)) → c ≡ bytes_for own (counts_in a) out → Written o 0 (line_octets v k q c) p r → Written o 0 (line_for_one v own a out) p r
-  unfolding line_for_one
-  line-with c i w = rw (← e, ← g, ← i) w
+pub one-written : (v : Option Verb) (own : Option ℕ) (a : Answer) (out : List ℕ) (k : ℕ) → k ≡ answer_number a → (q : Option ℕ) → q ≡ session_named own a
+    → (c : Option (List ℕ)) → c ≡ bytes_for own (counts_in a) out → (o p : List ℕ) (r : ℕ) → Written o 0 (line_octets v k q c) p r → Written o 0 (line_for_one v own a out) p r
+unfolding line_for_one
+one-written v own a out k e q g c i o p r w = rw (← e, ← g, ← i) w
 
-no-counts : (s : Option ℕ) (out : List ℕ) → none ≡ bytes_for s none out
-unfolding bytes_for
-no-counts none out = refl
-no-counts (some s) out = refl
+pub ruleset noting = (note-quiet, note-bytes, note-ended)
 
-module _ (v : Verb) (own : SessionField) (a : Answer) (out : List ℕ) (k : ℕ) (e : k ≡ answer_number a) (q : Option ℕ) (g : q ≡ session_named (session_of own) a)
-    (x : Sending) (h : sending_of x ≡ counts_in a) (o p : List ℕ) (r : ℕ) where
-  pub one-nothing : x ≡ Nothing → Written o 0 (line_octets v k q none) p r → Written o 0 (line_for_one v (session_of own) a out) p r
-  one-nothing i w =
-      line-with v (session_of own) a out k e q g o p r none
-      (no-counts (session_of own) out ∙ ap (λ (c : Option (List ℕ)). bytes_for (session_of own) c out) (ap sending_of (sym i) ∙ h)) w
+pub ruleset lines = (lines-none, lines-turn, lines-whole, written-within)
 
-  pub one-nobody : own ≡ NoSession → Written o 0 (line_octets v k q none) p r → Written o 0 (line_for_one v (session_of own) a out) p r
-  unfolding bytes_for
-  one-nobody i w =
-      line-with v (session_of own) a out k e q g o p r none (ap (λ (y : SessionField). bytes_for (session_of y) (counts_in a) out) (sym i)) w
+pub ruleset telling = (all-silent, all_noted)
 
-  pub one-sent : (c : Counts) → x ≡ Counted c → (s : ℕ) → own ≡ Session s → (l : List ℕ) → l ≡ sent_to (counts_of c) s out
-      → Written o 0 (line_octets v k q (some l)) p r → Written o 0 (line_for_one v (session_of own) a out) p r
-  unfolding bytes_for
-  one-sent c i s j l m w =
-      line-with v (session_of own) a out k e q g o p r (some l)
-      (ap some m ∙ ap₂ (λ (y : SessionField) (z : Option (List ℕ)). bytes_for (session_of y) z out) (sym j) (ap sending_of (sym i) ∙ h)) w
+pub ruleset sending = (sent-there, sent-past)
+
+pub ruleset one = (one-written)

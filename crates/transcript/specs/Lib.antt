@@ -1,4 +1,3 @@
 -- Definitions of the replay program: the lines of an answer; what a line gives.
 pub mod Lines
-pub mod Code
 pub mod Responses

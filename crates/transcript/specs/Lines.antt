@@ -1,22 +1,17 @@
 -- The lines of an answer. 01, "The replay program": "Batch and tick write one line for each session with bytes (2) or ended (4),
 -- upward, or one line with 1 or the refusal and no session. Elsewhere the session is the line's own or the one opened, - where
 -- open is refused; hex stands only with 2."
-use Rattle.std.specs.Prelude.{ℕ, suc, ◌*◌, Bool, true, false, cond, ◌&&◌, List, [], ◌∷◌, ◌++◌, map, ◌≡◌, length, get_or, eqb}
-use Rattle.std.proofs.Math.Option.{Option, none, some}
+use Rattle.std.specs.Prelude.{ℕ, suc, ◌*◌, Bool, true, false, cond, List, [], ◌∷◌, ◌++◌, map, ◌≡◌, length, get_or, eqb, Option, Some, None}
 use Rattle.std.proofs.lemmas.List.Edits.{sets}
 use Rattle.wire.specs.Part.{part}
 use Rattle.zone.specs.Lists.{all_of}
 use Rattle.service.specs.Answer.{Answer, done, opened, ended, sent, not_ours, aborted, reconfirm, refused, answer_number}
 use Rattle.service.specs.Checks.{output_size}
-use Rattle.server.specs.Answers.{counts_of}
 use Rattle.script.specs.Output.{line_octets}
 use Rattle.script.specs.declared.verb.Verb.{Verb}
-use Rattle.script.specs.declared.verb.Verb.TheVariants.{Open, Close, Message, Batch, Tick, Unknown}
+use Rattle.script.specs.declared.verb.Verb.TheVariants.{Open, Close, Message, Batch, Tick}
 use Rattle.transcript.specs.declared.note.Note.{Note}
 use Rattle.transcript.specs.declared.note.Note.TheVariants.{Quiet, Bytes, Ended}
-use Rattle.transcript.specs.declared.note.Notes.{Notes}
-use Rattle.transcript.specs.declared.own.Sending.{Sending}
-use Rattle.transcript.specs.declared.own.Sending.TheVariants.{Counted, Nothing}
 
 -- ---- batch and tick: what there is to say of each session
 
@@ -39,42 +34,36 @@ notes_of aborted = silent
 notes_of (reconfirm places) = silent
 notes_of (refused r) = silent
 
-abbrev pub note_list : Notes → List Note
-note_list n = n.n0 ∷ n.n1 ∷ n.n2 ∷ n.n3 ∷ []
-
 unfoldable pub is_quiet : Note → Bool
 is_quiet Quiet = true
 is_quiet (Bytes n) = false
 is_quiet Ended = false
 
-unfoldable pub both_quiet : Note → Note → Bool
-both_quiet a b = is_quiet a && is_quiet b
-
 unfoldable pub all_quiet : List Note → Bool
 all_quiet l = all_of is_quiet l
 
 -- "one line for each session with bytes (2) or ended (4)". A session's bytes stand at the start of its output.
-unfoldable pub note_line : Verb → List ℕ → ℕ → Note → List ℕ
+unfoldable pub note_line : Option Verb → List ℕ → ℕ → Note → List ℕ
 note_line v out s Quiet = []
-note_line v out s (Bytes n) = line_octets v 2 (some s) (some (part out (s * output_size) n))
-note_line v out s Ended = line_octets v 4 (some s) none
+note_line v out s (Bytes n) = line_octets v 2 (Some s) (Some (part out (s * output_size) n))
+note_line v out s Ended = line_octets v 4 (Some s) None
 
 -- "upward", from session s on.
-unfoldable pub note_lines : Verb → List ℕ → ℕ → List Note → List ℕ
+unfoldable pub note_lines : Option Verb → List ℕ → ℕ → List Note → List ℕ
 note_lines v out s [] = []
 note_lines v out s (x ∷ xs) = note_line v out s x ++ note_lines v out (suc s) xs
 
 -- "or one line with 1 or the refusal and no session".
-unfoldable pub lines_for_all : Verb → Answer → List ℕ → List ℕ
+unfoldable pub lines_for_all : Option Verb → Answer → List ℕ → List ℕ
 lines_for_all v a out =
-    cond (all_quiet (notes_of a)) (line_octets v (answer_number a) none none) (note_lines v out 0 (notes_of a))
+    cond (all_quiet (notes_of a)) (line_octets v (answer_number a) None None) (note_lines v out 0 (notes_of a))
 
 -- ---- open, close and msg: one line
 
 -- "the session is the line's own or the one opened, - where open is refused".
 unfoldable pub session_named : Option ℕ → Answer → Option ℕ
 session_named own done = own
-session_named own (opened s) = some s
+session_named own (opened s) = Some s
 session_named own (ended flags) = own
 session_named own (sent counts) = own
 session_named own not_ours = own
@@ -84,18 +73,14 @@ session_named own (refused r) = own
 
 -- "hex stands only with 2".
 unfoldable pub counts_in : Answer → Option (List ℕ)
-counts_in done = none
-counts_in (opened s) = none
-counts_in (ended flags) = none
-counts_in (sent counts) = some counts
-counts_in not_ours = none
-counts_in aborted = none
-counts_in (reconfirm places) = none
-counts_in (refused r) = none
-
-abbrev pub sending_of : Sending → Option (List ℕ)
-sending_of (Counted c) = some (counts_of c)
-sending_of Nothing = none
+counts_in done = None
+counts_in (opened s) = None
+counts_in (ended flags) = None
+counts_in (sent counts) = Some counts
+counts_in not_ours = None
+counts_in aborted = None
+counts_in (reconfirm places) = None
+counts_in (refused r) = None
 
 -- The bytes of the line's own session, which stand at the start of its output; past the last session none.
 unfoldable pub count_for : List ℕ → ℕ → ℕ
@@ -105,25 +90,25 @@ unfoldable pub sent_to : List ℕ → ℕ → List ℕ → List ℕ
 sent_to counts s out = part out (s * output_size) (count_for counts s)
 
 unfoldable pub bytes_for : Option ℕ → Option (List ℕ) → List ℕ → Option (List ℕ)
-bytes_for none counts out = none
-bytes_for (some s) none out = none
-bytes_for (some s) (some counts) out = some (sent_to counts s out)
+bytes_for None counts out = None
+bytes_for (Some s) None out = None
+bytes_for (Some s) (Some counts) out = Some (sent_to counts s out)
 
-unfoldable pub line_for_one : Verb → Option ℕ → Answer → List ℕ → List ℕ
+unfoldable pub line_for_one : Option Verb → Option ℕ → Answer → List ℕ → List ℕ
 line_for_one v own a out = line_octets v (answer_number a) (session_named own a) (bytes_for own (counts_in a) out)
 
 -- ---- either
 
-unfoldable pub tells_all : Verb → Bool
-tells_all Open = false
-tells_all Close = false
-tells_all Message = false
-tells_all Batch = true
-tells_all Tick = true
-tells_all Unknown = false
+unfoldable pub tells_all : Option Verb → Bool
+tells_all None = false
+tells_all (Some Open) = false
+tells_all (Some Close) = false
+tells_all (Some Message) = false
+tells_all (Some Batch) = true
+tells_all (Some Tick) = true
 
 -- Of a line's verb, its own session if it has one, the answer, and the output as the call left it.
-unfoldable pub lines_of : Verb → Option ℕ → Answer → List ℕ → List ℕ
+unfoldable pub lines_of : Option Verb → Option ℕ → Answer → List ℕ → List ℕ
 lines_of v own a out = cond (tells_all v) (lines_for_all v a out) (line_for_one v own a out)
 
 -- ---- whole

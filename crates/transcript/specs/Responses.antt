@@ -1,6 +1,5 @@
 -- What one line of input gives, and a whole script (01, "The replay program").
-use Rattle.std.specs.Prelude.{ℕ, ◌<◌, true, List, [], ◌∷◌, ◌++◌, ◌≡◌}
-use Rattle.std.proofs.Math.Option.{Option, none, some}
+use Rattle.std.specs.Prelude.{ℕ, ◌<◌, true, List, [], ◌∷◌, ◌++◌, ◌≡◌, Option, Some, None}
 use Rattle.std.proofs.Math.Pow.{are_bytes}
 use Rattle.service.specs.Answer.{Answer, answer_number}
 use Rattle.service.specs.State.{State}
@@ -11,27 +10,27 @@ use Rattle.server.specs.declared.state.Server.{Server}
 use Rattle.script.specs.Line.{Line, line_of, octets_in}
 use Rattle.script.specs.Output.{line_octets}
 use Rattle.script.specs.declared.verb.Verb.{Verb}
-use Rattle.script.specs.declared.verb.Verb.TheVariants.{Open, Close, Message, Batch, Tick, Unknown}
+use Rattle.script.specs.declared.verb.Verb.TheVariants.{Open, Close, Message, Batch, Tick}
 use Rattle.script.proofs.Carrying.{line_small}
 use Rattle.transcript.specs.Lines.{lines_of, Printed}
 
 -- "Output: verb, .."; the line's own.
-abbrev pub verb_in : Line → Verb
-verb_in (Line.opening t) = Open
-verb_in (Line.closing t s) = Close
-verb_in (Line.message t s l) = Message
-verb_in (Line.batch t l) = Batch
-verb_in (Line.ticking t) = Tick
-verb_in Line.unreadable = Unknown
+abbrev pub verb_in : Line → Option Verb
+verb_in (Line.opening t) = Some Open
+verb_in (Line.closing t s) = Some Close
+verb_in (Line.message t s l) = Some Message
+verb_in (Line.batch t l) = Some Batch
+verb_in (Line.ticking t) = Some Tick
+verb_in Line.unreadable = None
 
 -- "the session is the line's own".
 abbrev pub own_in : Line → Option ℕ
-own_in (Line.opening t) = none
-own_in (Line.closing t s) = some s
-own_in (Line.message t s l) = some s
-own_in (Line.batch t l) = none
-own_in (Line.ticking t) = none
-own_in Line.unreadable = none
+own_in (Line.opening t) = None
+own_in (Line.closing t s) = Some s
+own_in (Line.message t s l) = Some s
+own_in (Line.batch t l) = None
+own_in (Line.ticking t) = None
+own_in Line.unreadable = None
 
 -- What a line does: the answer of its call, and none where it is unreadable; the next state; the output slice as it is then.
 pub record Step : Type 0 where
@@ -41,7 +40,7 @@ pub record Step : Type 0 where
 
 -- Of a call that left the output so.
 abbrev pub leaving : List ℕ → Outcome → Step
-leaving out w = record { answer = some w.answer; next = w.next; output = out }
+leaving out w = record { answer = Some w.answer; next = w.next; output = out }
 
 -- "open time; close time s; msg time s hex; batch time hex; tick time". Open, close and tick are lent no output: it stays as it
 -- was. An unreadable line calls nothing: "Answers 10 to 20 change nothing".
@@ -51,20 +50,20 @@ step_of st out (Line.closing t s) small = leaving out (outcome st (closes t s))
 step_of st out (Line.message t s l) small = let w = outcome st (receives t s (record { list = l; small = small }) out) in leaving w.output w
 step_of st out (Line.batch t l) small = let w = outcome st (edits t (record { list = l; small = small }) out) in leaving w.output w
 step_of st out (Line.ticking t) small = leaving out (outcome st (ticks t))
-step_of st out Line.unreadable small = record { answer = none; next = st; output = out }
+step_of st out Line.unreadable small = record { answer = None; next = st; output = out }
 
 -- 01: 19, "replay line unreadable".
 unfoldable pub number_told : Option Answer → ℕ
-number_told none = 19
-number_told (some a) = answer_number a
+number_told None = 19
+number_told (Some a) = answer_number a
 
 -- "A line over 32,768 bytes, LF aside, or unreadable writes ?, 19, -, -".
 unfoldable pub unread_line : List ℕ
-unread_line = line_octets Unknown (number_told none) none none
+unread_line = line_octets None (number_told None) None None
 
 unfoldable pub lines_told : Line → Option Answer → List ℕ → List ℕ
-lines_told line none out = unread_line
-lines_told line (some a) out = lines_of (verb_in line) (own_in line) a out
+lines_told line None out = unread_line
+lines_told line (Some a) out = lines_of (verb_in line) (own_in line) a out
 
 -- What a line gives: the number of its answer, the next state, the output slice as it is then, and the octets of the lines that
 -- are written.

@@ -7,4 +7,4 @@ mod own;
 mod response;
 
 pub use lines::{Output, Text, write_lines};
-pub use response::{Answered, write_response};
+pub use response::write_response;

@@ -1,100 +1,66 @@
 // The one line of open, close and msg: which session it names, and which bytes.
-ghost use Rattle.std.specs.Prelude.{◌≡◌};
+ghost use Rattle.std.specs.Prelude.{◌≡◌, option_copied};
 ghost use Rattle.server.specs.Answers.{answer_of, counts_of};
-ghost use Rattle.script.specs.Code.{Written, session_of};
-ghost use Rattle.transcript.specs.Lines.{session_named, counts_in, sending_of, count_for, sent_to, line_for_one};
+ghost use Rattle.script.specs.Code.{Written};
+ghost use Rattle.transcript.specs.Lines.{session_named, counts_in, sent_to, bytes_for, line_for_one};
 
-use script::{SessionField, Verb, write_line};
+use script::{OutputLine, Verb, write_line};
 use server::{Answer, Counts, answer_number};
 use table::part;
 
 // 01: "session s writes from s x 16,384".
 pub const SESSION_OUTPUT: usize = 16384;
 
-// The counts of an answer that has them.
-#[derive(Clone, Copy)]
-pub enum Sending {
-    Counted(Counts),
-    Nothing,
-}
-
-fn named(own: SessionField, answer: Answer) -> SessionField
-    ensures { session_of result ≡ session_named (session_of own) (answer_of answer) }
+#[tactic(auto, unfolding(crate::specs::Lines::session_named, server::specs::Answers::answer_of))]
+fn named(own: Option<u64>, answer: Answer) -> Option<u64>
+    ensures { result ≡ session_named own (answer_of answer) }
 {
     match answer {
-        Answer::Done => own,
-        Answer::Opened(s) => SessionField::Session(s.0),
-        Answer::Ended(_) => own,
-        Answer::Sent(_) => own,
-        Answer::NotOurs => own,
-        Answer::Aborted => own,
-        Answer::Reconfirm(_) => own,
-        Answer::Refused(_) => own,
+        Answer::Opened(s) => Some(s.0),
+        _ => own,
     }
 }
 
-fn counted(answer: Answer) -> Sending
-    ensures { sending_of result ≡ counts_in (answer_of answer) }
-{
-    match answer {
-        Answer::Done => Sending::Nothing,
-        Answer::Opened(_) => Sending::Nothing,
-        Answer::Ended(_) => Sending::Nothing,
-        Answer::Sent(c) => Sending::Counted(c),
-        Answer::NotOurs => Sending::Nothing,
-        Answer::Aborted => Sending::Nothing,
-        Answer::Reconfirm(_) => Sending::Nothing,
-        Answer::Refused(_) => Sending::Nothing,
-    }
-}
-
-// Of the session of a number; past the last one none.
-fn count_of(s: u64, c: Counts) -> usize
-    ensures { result ≡ count_for (counts_of c) s }
-{
-    if s == 0 {
-        return c.c0;
-    }
-    if s == 1 {
-        return c.c1;
-    }
-    if s == 2 {
-        return c.c2;
-    }
-    if s == 3 {
-        return c.c3;
-    }
-    0
-}
-
-// The bytes at the start of a session's output.
+// The bytes at the start of the output of the session of a number; past the last one none.
+#[tactic(auto, using(crate::proofs::Telling::sending), unfolding(crate::specs::Lines::sent_to, crate::specs::Lines::count_for))]
 fn sent_to(s: u64, c: Counts, out: &[u8]) -> &[u8]
     ensures { result.now ≡ sent_to (counts_of c) s out.now }
 {
-    let n = count_of(s, c);
+    let counts = [c.c0, c.c1, c.c2, c.c3];
     if s < 4 {
-        return part(out, (s as usize) * SESSION_OUTPUT, n);
+        let at = s as usize;
+        return part(out, at * SESSION_OUTPUT, counts[at]);
     }
     part(out, 0, 0)
 }
 
+// Those of the line's own session, where the answer sends any.
+#[tactic(auto, unfolding(crate::specs::Lines::bytes_for, crate::specs::Lines::counts_in, server::specs::Answers::answer_of))]
+fn bytes_for(own: Option<u64>, answer: Answer, out: &[u8]) -> Option<&[u8]>
+    ensures { option_copied result ≡ bytes_for own (counts_in (answer_of answer)) out.now }
+{
+    match answer {
+        Answer::Sent(c) => Some(sent_to(own?, c, out)),
+        _ => None,
+    }
+}
+
+#[tactic(auto, using(crate::proofs::Telling::one))]
 pub fn write_for_one(
-    verb: Verb,
-    own: SessionField,
+    verb: Option<Verb>,
+    own: Option<u64>,
     answer: Answer,
     out: &[u8],
     text: &mut [u8],
 ) -> usize
-    ensures { Written text.old 0 (line_for_one verb (session_of own) (answer_of answer) out.now)
+    ensures { Written text.old 0 (line_for_one verb own (answer_of answer) out.now)
         text.new result }
 {
-    let number = answer_number(answer);
-    let session = named(own, answer);
-    let Sending::Counted(c) = counted(answer) else {
-        return write_line(text, 0, verb, number, session, out, false);
+    let line = OutputLine {
+        verb,
+        answer: answer_number(answer),
+        session: named(own, answer),
+        bytes: bytes_for(own, answer, out),
     };
-    let SessionField::Session(s) = own else {
-        return write_line(text, 0, verb, number, session, out, false);
-    };
-    write_line(text, 0, verb, number, session, sent_to(s, c, out), true)
+    write_line(text, 0, line)
 }

@@ -1,12 +1,10 @@
--- `transcript::lines::write_notes` meets its contract. Assumes nothing.
+-- `write_notes`: session by session.
 use borrow.Author.Rules.{rules}
-use Rattle.transcript.proofs.Telling.{written-within, notes-written}
+use Rattle.transcript.proofs.Telling.{lines}
 use Rattle.transcript.proofs.lines.write_notes.Goals as goal
 
-ruleset laws = (written-within, notes-written, rules)
+pub loop-s-init : goal.loop-s-init
+loop-s-init c = search (lines, rules)
 
-pub write_two-next-requires : goal.write_two-next-requires
-write_two-next-requires c = search laws
-
-pub returns : goal.returns
-returns c = search laws
+pub loop-s-preserved : goal.loop-s-preserved
+loop-s-preserved c = search (lines, rules)

@@ -1,14 +1,10 @@
--- `transcript::response::write_response` meets its contract. Assumes nothing.
-use Rattle.transcript.proofs.Responding.{told-lines, unread-lines}
+-- `write_response`: the lines of the answer, or of none.
+use borrow.Author.Rules.{rules}
+use Rattle.transcript.proofs.Responding.{responding}
 use Rattle.transcript.proofs.response.write_response.Goals as goal
 
-pub returns-in-Told : goal.returns-in-Told
-returns-in-Told c =
-    let a = c.args in
-    told-lines a.command a.answered _ _ _ _ _ c.in-Told.is _ c.verb_in-verb.ensures c.own_in-own.result
-    c.own_in-own.ensures c.write_lines.ensures
+pub returns-in_default : goal.returns-in_default
+returns-in_default c = search (responding, rules)
 
-pub returns-in-Unread : goal.returns-in-Unread
-returns-in-Unread c =
-    let a = c.args in
-    unread-lines a.command a.answered _ _ _ _ c.in-Unread.is c.write_unread.ensures
+pub returns : goal.returns
+returns c = search (responding, rules)
