@@ -110,30 +110,20 @@ hex-turn o at bytes p r i w h a b ea eb q t v =
 pub hex-whole : (o : List ℕ) (at : ℕ) (bytes p : List ℕ) (r i : ℕ) → Written o at (hex_octets (take i bytes)) p r → length bytes ≤ i → Written o at (hex_octets bytes) p r
 hex-whole o at bytes p r i w h = subst (λ (l : List ℕ). Written o at (hex_octets l) p r) (take_all i bytes h) w
 
--- ---- the whole line
+-- ---- the whole line: its fields, a tab between
 
--- A field behind its tab.
-pub tab-then : (o : List ℕ) (at : ℕ) (p : List ℕ) (r : ℕ) (q : List ℕ) (t : ℕ) (l m : List ℕ) → Written o at (tab ∷ []) p r → Written p r l q t → l ≡ m → Written o at (tab ∷ m) q t
-tab-then o at p r q t l m w v e = subst (λ (x : List ℕ). Written o at (tab ∷ x) q t) e (written_then o at (tab ∷ []) p r w l q t v)
+module _ (o : List ℕ) (at : ℕ) (l : List ℕ) (p : List ℕ) (r : ℕ) (w : Written o at l p r) (q : List ℕ) (t : ℕ) (x : Written p r (tab ∷ []) q t) where
+  pub field-then : (m : List ℕ) (z : List ℕ) (u : ℕ) → Written q t m z u → Written o at (l ++ (tab ∷ m)) z u
+  field-then m z u y = written_then o at l p r w (tab ∷ m) z u (written_then p r (tab ∷ []) q t x m z u y)
 
-pub line-written : (o : List ℕ) (at : ℕ) (v : Option Verb) (p : List ℕ) (r : ℕ) → Written o at (verb_octets v) p r
-    → (n : ℕ) (q : List ℕ) (u : ℕ) → Written p r (tab ∷ decimal n) q u
-    → (s : Option ℕ) (x : List ℕ) (w : ℕ) → Written q u (tab ∷ session_octets s) x w
-    → (c : Option (List ℕ)) (y : List ℕ) (k : ℕ) → Written x w (tab ∷ bytes_octets c) y k
-    → (z : List ℕ) (t : ℕ) → Written y k (lf ∷ []) z t
-    → Written o at (line_octets v n s c) z t
+pub line-written : (o : List ℕ) (at : ℕ) (v : Option Verb) (n : ℕ) (s : Option ℕ) (c : Option (List ℕ)) (p : List ℕ) (r : ℕ)
+    → (k : ℕ) → k ≡ n → Written o at (((verb_octets v ++ (tab ∷ decimal k)) ++ (tab ∷ session_octets s)) ++ (tab ∷ bytes_octets c)) p r
+    → (z : List ℕ) (t : ℕ) → Written p r (lf ∷ []) z t → Written o at (line_octets v n s c) z t
 unfolding line_octets tabbed
-line-written o at v p r wv n q u wn s x w ws c y k wc z t wz =
-    let a : List ℕ = verb_octets v in
-    let b : List ℕ = tab ∷ decimal n in
-    let d : List ℕ = tab ∷ session_octets s in
-    let e : List ℕ = tab ∷ bytes_octets c in
-    let two = written_then o at a p r wv b q u wn in
-    let three = written_then o at (a ++ b) q u two d x w ws in
-    let four = written_then o at ((a ++ b) ++ d) x w three e y k wc in
-    let all = written_then o at (((a ++ b) ++ d) ++ e) y k four (lf ∷ []) z t wz in
-    let same : (((a ++ b) ++ d) ++ e) ++ (lf ∷ []) ≡ (a ++ tabs_before (decimal n ∷ session_octets s ∷ bytes_octets c ∷ [])) ++ (lf ∷ []) =
-    simp (append_assoc, append-nil) in
+line-written o at v n s c p r k e w z t x =
+    let all = written_then o at (((verb_octets v ++ (tab ∷ decimal k)) ++ (tab ∷ session_octets s)) ++ (tab ∷ bytes_octets c)) p r w (lf ∷ []) z t x in
+    let same : (((verb_octets v ++ (tab ∷ decimal k)) ++ (tab ∷ session_octets s)) ++ (tab ∷ bytes_octets c)) ++ (lf ∷ [])
+        ≡ (verb_octets v ++ tabs_before (decimal n ∷ session_octets s ∷ bytes_octets c ∷ [])) ++ (lf ∷ []) = rw e (simp (append_assoc, append-nil)) in
     subst (λ (l : List ℕ). Written o at l z t) same all
 
 -- ---- for who lends the memory
@@ -191,6 +181,4 @@ pub ruleset number = (digit-written, digits-written)
 
 pub ruleset hex = (hex-none, hex-turn, hex-whole)
 
-pub ruleset tabs = (tab-then)
 
-pub ruleset line = (line-written)

@@ -1,11 +1,10 @@
 // A line of output, octet for octet (01, "The replay program"). Each function answers the place behind what it wrote, which
 // is the end of the memory where it did not all fit.
-ghost use Rattle.std.specs.Prelude.{◌+◌, ◌<◌, min, ◌≡◌, [], ◌∷◌, ◌++◌, option_copied};
+ghost use Rattle.std.specs.Prelude.{◌+◌, ◌<◌, min, ◌≡◌, option_copied};
 ghost use Rattle.script.specs.Digit.{digit_octet};
 ghost use Rattle.script.specs.Number.{decimal};
 ghost use Rattle.script.specs.Hex.{hex_octets};
-ghost use Rattle.script.specs.Fields.{tab};
-ghost use Rattle.script.specs.Output.{lf, verb_octets, session_octets, bytes_octets, line_octets};
+ghost use Rattle.script.specs.Output.{verb_octets, session_octets, bytes_octets, line_octets};
 ghost use Rattle.script.specs.Code.{Written};
 
 use crate::verb::Verb;
@@ -43,7 +42,6 @@ pub fn put(out: &mut [u8], at: usize, text: &[u8]) -> usize
 }
 
 // The digits before the last one, if there are any, and the last one.
-#[tactic(auto, using(crate::proofs::Writing::number))]
 fn put_number(out: &mut [u8], at: usize, x: u64) -> usize
     ensures { Written out.old at (decimal x) out.new result }
 {
@@ -77,49 +75,37 @@ fn put_verb(out: &mut [u8], at: usize, verb: Option<Verb>) -> usize
     }
 }
 
-#[tactic(auto, using(crate::proofs::Writing::tabs))]
-fn put_answer(out: &mut [u8], at: usize, answer: u32) -> usize
-    ensures { Written out.old at (tab ∷ decimal answer) out.new result }
-{
-    let a = put(out, at, b"\t");
-    put_number(out, a, u64::from(answer))
-}
-
-#[tactic(auto, using(crate::proofs::Writing::tabs), unfolding(crate::specs::Output::session_octets))]
+#[tactic(auto, unfolding(crate::specs::Output::session_octets))]
 fn put_session(out: &mut [u8], at: usize, session: Option<u64>) -> usize
-    ensures { Written out.old at (tab ∷ session_octets session) out.new result }
+    ensures { Written out.old at (session_octets session) out.new result }
 {
     match session {
-        Some(s) => {
-            let a = put(out, at, b"\t");
-            put_number(out, a, s)
-        }
-        None => put(out, at, b"\t-"),
+        Some(s) => put_number(out, at, s),
+        None => put(out, at, b"-"),
     }
 }
 
-#[tactic(auto, using(crate::proofs::Writing::tabs), unfolding(crate::specs::Output::bytes_octets))]
+#[tactic(auto, unfolding(crate::specs::Output::bytes_octets))]
 fn put_bytes(out: &mut [u8], at: usize, bytes: Option<&[u8]>) -> usize
-    ensures { Written out.old at (tab ∷ bytes_octets (option_copied bytes.entry)) out.new result }
+    ensures { Written out.old at (bytes_octets (option_copied bytes.entry)) out.new result }
 {
     match bytes {
-        Some(b) => {
-            let a = put(out, at, b"\t");
-            put_hex(out, a, b)
-        }
-        None => put(out, at, b"\t-"),
+        Some(b) => put_hex(out, at, b),
+        None => put(out, at, b"-"),
     }
 }
 
 // One line from a place on.
-#[tactic(auto, using(crate::proofs::Writing::line))]
 pub fn write_line(out: &mut [u8], at: usize, line: OutputLine) -> usize
     ensures { Written out.old at (line_octets line.entry.verb line.entry.answer line.entry.session (option_copied line.entry.bytes))
         out.new result }
 {
-    let a = put_verb(out, at, line.verb);
-    let b = put_answer(out, a, line.answer);
-    let c = put_session(out, b, line.session);
-    let d = put_bytes(out, c, line.bytes);
-    put(out, d, b"\n")
+    let verb = put_verb(out, at, line.verb);
+    let tab = put(out, verb, b"\t");
+    let answer = put_number(out, tab, u64::from(line.answer));
+    let second_tab = put(out, answer, b"\t");
+    let session = put_session(out, second_tab, line.session);
+    let third_tab = put(out, session, b"\t");
+    let bytes = put_bytes(out, third_tab, line.bytes);
+    put(out, bytes, b"\n")
 }
