@@ -123,7 +123,7 @@ unfolding line_octets tabbed
 line-written o at v n s c p r k e w z t x =
     let all = written_then o at (((verb_octets v ++ (tab ∷ decimal k)) ++ (tab ∷ session_octets s)) ++ (tab ∷ bytes_octets c)) p r w (lf ∷ []) z t x in
     let same : (((verb_octets v ++ (tab ∷ decimal k)) ++ (tab ∷ session_octets s)) ++ (tab ∷ bytes_octets c)) ++ (lf ∷ [])
-        ≡ (verb_octets v ++ tabs_before (decimal n ∷ session_octets s ∷ bytes_octets c ∷ [])) ++ (lf ∷ []) = rw e (simp (append_assoc, append-nil)) in
+    ≡ (verb_octets v ++ tabs_before (decimal n ∷ session_octets s ∷ bytes_octets c ∷ [])) ++ (lf ∷ []) = rw e (simp (append_assoc, append-nil)) in
     subst (λ (l : List ℕ). Written o at l z t) same all
 
 -- ---- for who lends the memory
@@ -177,8 +177,4 @@ length-line v n s c =
     let e = length-bytes c in
     simp length-append (omega arith)
 
-pub ruleset number = (digit-written, digits-written)
-
-pub ruleset hex = (hex-none, hex-turn, hex-whole)
-
-
+pub ruleset hex = (hex-whole)

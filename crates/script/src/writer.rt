@@ -41,58 +41,100 @@ pub fn put(out: &mut [u8], at: usize, text: &[u8]) -> usize
     place(out.len(), at, text.len())
 }
 
-// The digits before the last one, if there are any, and the last one.
-fn put_number(out: &mut [u8], at: usize, x: u64) -> usize
-    ensures { Written out.old at (decimal x) out.new result }
-{
-    let last = digit_octet((x % 10) as u8);
-    if x < 10 {
-        return put(out, at, &[last]);
-    }
-    let next = put_number(out, at, x / 10);
-    put(out, next, &[last])
+// Memory that is lent for lines, and the next free place in it.
+#[derive(Drop)]
+struct LineWriter<'a> {
+    out: &'a mut [u8],
+    at: usize,
 }
 
-#[tactic(auto, using(crate::proofs::Writing::hex))]
+impl LineWriter<'_> {
+    fn put(&mut self, text: &[u8])
+        ensures same { self.new.out.ghost_name ≡ self.old.out.ghost_name }
+        ensures written { Written self.old.out.now self.old.at text.now self.new.out.now self.new.at }
+    {
+        self.at = put(self.out, self.at, text);
+    }
+
+    // The digits before the last one, if there are any, and the last one.
+    fn number(&mut self, x: u64)
+        ensures same { self.new.out.ghost_name ≡ self.old.out.ghost_name }
+        ensures written { Written self.old.out.now self.old.at (decimal x) self.new.out.now self.new.at }
+    {
+        let last = digit_octet((x % 10) as u8);
+        if 10 <= x {
+            self.number(x / 10);
+        }
+        self.put(&[last]);
+    }
+
+    #[tactic(auto, using(crate::proofs::Writing::hex))]
+    fn hex(&mut self, bytes: &[u8])
+        ensures same { self.new.out.ghost_name ≡ self.old.out.ghost_name }
+        ensures written { Written self.old.out.now self.old.at (hex_octets bytes.now) self.new.out.now self.new.at }
+    {
+        self.at = place(self.out.len(), self.at, 0);
+        for b in bytes {
+            self.put(&[digit_octet(*b / 16), digit_octet(*b % 16)]);
+        }
+    }
+
+    #[tactic(auto, unfolding(crate::specs::Output::verb_octets))]
+    fn verb(&mut self, verb: Option<Verb>)
+        ensures same { self.new.out.ghost_name ≡ self.old.out.ghost_name }
+        ensures written { Written self.old.out.now self.old.at (verb_octets verb) self.new.out.now self.new.at }
+    {
+        match verb {
+            Some(v) => self.put(v.text()),
+            None => self.put(b"?"),
+        }
+    }
+
+    #[tactic(auto, unfolding(crate::specs::Output::session_octets))]
+    fn session(&mut self, session: Option<u64>)
+        ensures same { self.new.out.ghost_name ≡ self.old.out.ghost_name }
+        ensures written { Written self.old.out.now self.old.at (session_octets session) self.new.out.now self.new.at }
+    {
+        match session {
+            Some(s) => self.number(s),
+            None => self.put(b"-"),
+        }
+    }
+
+    #[tactic(auto, unfolding(crate::specs::Output::bytes_octets))]
+    fn bytes(&mut self, bytes: Option<&[u8]>)
+        ensures same { self.new.out.ghost_name ≡ self.old.out.ghost_name }
+        ensures written { Written self.old.out.now self.old.at (bytes_octets (option_copied bytes.entry)) self.new.out.now self.new.at }
+    {
+        match bytes {
+            Some(b) => self.hex(b),
+            None => self.put(b"-"),
+        }
+    }
+
+    fn line(&mut self, line: OutputLine)
+        ensures same { self.new.out.ghost_name ≡ self.old.out.ghost_name }
+        ensures written { Written self.old.out.now self.old.at
+            (line_octets line.entry.verb line.entry.answer line.entry.session (option_copied line.entry.bytes))
+            self.new.out.now self.new.at }
+    {
+        self.verb(line.verb);
+        self.put(b"\t");
+        self.number(u64::from(line.answer));
+        self.put(b"\t");
+        self.session(line.session);
+        self.put(b"\t");
+        self.bytes(line.bytes);
+        self.put(b"\n");
+    }
+}
+
 pub fn put_hex(out: &mut [u8], at: usize, bytes: &[u8]) -> usize
     ensures { Written out.old at (hex_octets bytes.now) out.new result }
 {
-    let mut next = place(out.len(), at, 0);
-    for b in bytes {
-        let two = [digit_octet(*b / 16), digit_octet(*b % 16)];
-        next = put(out, next, &two);
-    }
-    next
-}
-
-#[tactic(auto, unfolding(crate::specs::Output::verb_octets))]
-fn put_verb(out: &mut [u8], at: usize, verb: Option<Verb>) -> usize
-    ensures { Written out.old at (verb_octets verb) out.new result }
-{
-    match verb {
-        Some(v) => put(out, at, v.text()),
-        None => put(out, at, b"?"),
-    }
-}
-
-#[tactic(auto, unfolding(crate::specs::Output::session_octets))]
-fn put_session(out: &mut [u8], at: usize, session: Option<u64>) -> usize
-    ensures { Written out.old at (session_octets session) out.new result }
-{
-    match session {
-        Some(s) => put_number(out, at, s),
-        None => put(out, at, b"-"),
-    }
-}
-
-#[tactic(auto, unfolding(crate::specs::Output::bytes_octets))]
-fn put_bytes(out: &mut [u8], at: usize, bytes: Option<&[u8]>) -> usize
-    ensures { Written out.old at (bytes_octets (option_copied bytes.entry)) out.new result }
-{
-    match bytes {
-        Some(b) => put_hex(out, at, b),
-        None => put(out, at, b"-"),
-    }
+    let mut writer = LineWriter { out, at };
+    writer.hex(bytes);
+    writer.at
 }
 
 // One line from a place on.
@@ -100,12 +142,7 @@ pub fn write_line(out: &mut [u8], at: usize, line: OutputLine) -> usize
     ensures { Written out.old at (line_octets line.entry.verb line.entry.answer line.entry.session (option_copied line.entry.bytes))
         out.new result }
 {
-    let verb = put_verb(out, at, line.verb);
-    let tab = put(out, verb, b"\t");
-    let answer = put_number(out, tab, u64::from(line.answer));
-    let second_tab = put(out, answer, b"\t");
-    let session = put_session(out, second_tab, line.session);
-    let third_tab = put(out, session, b"\t");
-    let bytes = put_bytes(out, third_tab, line.bytes);
-    put(out, bytes, b"\n")
+    let mut writer = LineWriter { out, at };
+    writer.line(line);
+    writer.at
 }

@@ -7,37 +7,15 @@ use native.Mathlib.Omega.{arith}
 use lib.ListN.{length, length-append, length-take, length-drop}
 use Rattle.std.specs.Prelude.{Option, Some, None}
 use Rattle.wire.specs.Part.{part}
-use Rattle.service.specs.Answer as Service
-use Rattle.service.specs.Answer.{answer_number}
+use Rattle.service.specs.Answer.{Answer, answer_number}
 use Rattle.service.specs.Checks.{output_size, least_output}
-use Rattle.server.specs.Answers.{answer_of}
-use Rattle.server.specs.declared.answer.Answer.{Answer}
-use Rattle.server.specs.declared.answer.Answer.TheVariants.{Done, Opened, Ended as Ticked, Sent, NotOurs, Aborted, Reconfirm, Refused}
 use Rattle.script.specs.Output.{line_octets}
 use Rattle.script.specs.Code.{Written}
 use Rattle.script.specs.declared.verb.Verb.{Verb}
 use Rattle.script.proofs.Writing.{length-line}
 use Rattle.transcript.specs.declared.note.Note.{Note}
 use Rattle.transcript.specs.declared.note.Note.TheVariants.{Quiet, Bytes, Ended}
-use Rattle.transcript.specs.Lines.{
-  count_note,
-  flag_note,
-  notes_of,
-  all_quiet,
-  note_line,
-  note_lines,
-  lines_for_all,
-  session_named,
-  counts_in,
-  count_for,
-  sent_to,
-  bytes_for,
-  line_for_one,
-  tells_all,
-  lines_of,
-  text_room,
-  Printed,
-}
+use Rattle.transcript.specs.Lines.{notes_of, all_quiet, note_line, note_lines, lines_for_all, session_named, counts_in, count_for, sent_to, bytes_for, line_for_one, tells_all, lines_of, text_room, Printed}
 
 length_part : (out : List ℕ) (a n : ℕ) → length (part out a n) ≤ length out - a
 length_part out a n = simp (length-take, length-drop) (omega arith)
@@ -50,26 +28,19 @@ length-note v out s (Bytes n) =
 length-note v out s Ended = omega (arith, length-line v 4 (Some s) None)
 
 module _ (v : Option Verb) (out : List ℕ) (h : length out ≤ least_output) where
-  length-notes : (a b c d : Note) → length (note_lines v out 0 (a ∷ b ∷ c ∷ d ∷ [])) ≤ text_room
+  length-notes : (notes : List Note) → length notes ≡ 4 → length (note_lines v out 0 notes) ≤ text_room
   unfolding note_lines
-  length-notes a b c d =
+  length-notes (a ∷ b ∷ c ∷ d ∷ []) e =
       let p = length-note v out 0 a in
       let q = length-note v out 1 b in
       let r = length-note v out 2 c in
       let t = length-note v out 3 d in
       simp length-append (omega arith)
-
-  -- The code's answers have a note for each of four sessions.
-  length-noted : (a : Answer) → length (note_lines v out 0 (notes_of (answer_of a))) ≤ text_room
-  unfolding notes_of answer_of
-  length-noted Done = length-notes Quiet Quiet Quiet Quiet
-  length-noted (Opened s) = length-notes Quiet Quiet Quiet Quiet
-  length-noted (Ticked f) = length-notes (flag_note f.f0) (flag_note f.f1) (flag_note f.f2) (flag_note f.f3)
-  length-noted (Sent n) = length-notes (count_note n.c0) (count_note n.c1) (count_note n.c2) (count_note n.c3)
-  length-noted NotOurs = length-notes Quiet Quiet Quiet Quiet
-  length-noted Aborted = length-notes Quiet Quiet Quiet Quiet
-  length-noted (Reconfirm p) = length-notes Quiet Quiet Quiet Quiet
-  length-noted (Refused r) = length-notes Quiet Quiet Quiet Quiet
+  length-notes [] e = absurd (omega arith)
+  length-notes (a ∷ []) e = absurd (omega arith)
+  length-notes (a ∷ b ∷ []) e = absurd (omega arith)
+  length-notes (a ∷ b ∷ c ∷ []) e = absurd (omega arith)
+  length-notes (a ∷ b ∷ c ∷ d ∷ f ∷ l) e = absurd (omega arith)
 
   either : (t : Bool) (x y : List ℕ) → length x ≤ text_room → length y ≤ text_room → length (cond t x y) ≤ text_room
   either true x y p q = p
@@ -78,11 +49,11 @@ module _ (v : Option Verb) (out : List ℕ) (h : length out ≤ least_output) wh
   length-bare : (n : ℕ) (s : Option ℕ) → length (line_octets v n s None) ≤ text_room
   length-bare n s = omega (arith, length-line v n s None)
 
-  length-all : (a : Answer) → length (lines_for_all v (answer_of a) out) ≤ text_room
+  length-all : (a : Answer) → length (notes_of a) ≡ 4 → length (lines_for_all v a out) ≤ text_room
   unfolding lines_for_all
-  length-all a =
-      either (all_quiet (notes_of (answer_of a))) (line_octets v (answer_number (answer_of a)) None None) (note_lines v out 0 (notes_of (answer_of a)))
-      (length-bare (answer_number (answer_of a)) None) (length-noted a)
+  length-all a e =
+      either (all_quiet (notes_of a)) (line_octets v (answer_number a) None None) (note_lines v out 0 (notes_of a))
+      (length-bare (answer_number a) None) (length-notes (notes_of a) e)
 
   length-with : (n : ℕ) (s own : Option ℕ) (c : Option (List ℕ)) → length (line_octets v n s (bytes_for own c out)) ≤ text_room
   unfolding bytes_for sent_to
@@ -91,33 +62,21 @@ module _ (v : Option Verb) (out : List ℕ) (h : length out ≤ least_output) wh
   length-with n s (Some k) (Some counts) =
       omega (arith, length-line v n s (Some (part out (k * output_size) (count_for counts k))), length_part out (k * output_size) (count_for counts k))
 
-  length-one : (own : Option ℕ) (a : Service.Answer) → length (line_for_one v own a out) ≤ text_room
+  length-one : (own : Option ℕ) (a : Answer) → length (line_for_one v own a out) ≤ text_room
   unfolding line_for_one
   length-one own a = length-with (answer_number a) (session_named own a) own (counts_in a)
 
-  pub length-lines : (own : Option ℕ) (a : Answer) → length (lines_of v own (answer_of a) out) ≤ text_room
+  -- The code's answers have a note for each of the four sessions (`note::noted`).
+  pub length-lines : (own : Option ℕ) (a : Answer) → length (notes_of a) ≡ 4 → length (lines_of v own a out) ≤ text_room
   unfolding lines_of
-  length-lines own a =
-      either (tells_all v) (lines_for_all v (answer_of a) out) (line_for_one v own (answer_of a) out) (length-all a) (length-one own (answer_of a))
+  length-lines own a e =
+      either (tells_all v) (lines_for_all v a out) (line_for_one v own a out) (length-all a e) (length-one own a)
 
 -- ---- so they are written whole
 
-module _ (v : Option Verb) (own : Option ℕ) (a : Answer) (out o p : List ℕ) (r : ℕ) (h : length out ≤ least_output) (k : text_room ≤ length o) (b : Bool) (e : b ≡ tells_all v) where
-  whole : Written o 0 (lines_of v own (answer_of a) out) p r → Printed o (lines_of v own (answer_of a) out) p r
-  whole w = record { whole = w.whole; count = omega (arith, w.next, length-lines v out h own a) }
+module _ (v : Option Verb) (a : Answer) (out o p : List ℕ) (r : ℕ) (h : length out ≤ least_output) (k : text_room ≤ length o) where
+  pub printed-all : length (notes_of a) ≡ 4 → Written o 0 (lines_for_all v a out) p r → Printed o (lines_for_all v a out) p r
+  printed-all e w = record { whole = w.whole; count = omega (arith, w.next, length-all v out h a e) }
 
-  as-all : b ≡ true → Written o 0 (lines_for_all v (answer_of a) out) p r → Written o 0 (lines_of v own (answer_of a) out) p r
-  unfolding lines_of
-  as-all g w = rw (← e, g) w
-
-  as_one : b ≡ false → Written o 0 (line_for_one v own (answer_of a) out) p r → Written o 0 (lines_of v own (answer_of a) out) p r
-  unfolding lines_of
-  as_one g w = rw (← e, g) w
-
-  pub printed-all : b ≡ true → Written o 0 (lines_for_all v (answer_of a) out) p r → Printed o (lines_of v own (answer_of a) out) p r
-  printed-all g w = whole (as-all g w)
-
-  pub printed-one : b ≡ false → Written o 0 (line_for_one v own (answer_of a) out) p r → Printed o (lines_of v own (answer_of a) out) p r
-  printed-one g w = whole (as_one g w)
-
-pub ruleset printing = (printed-all, printed-one)
+  pub printed-one : (own : Option ℕ) → Written o 0 (line_for_one v own a out) p r → Printed o (line_for_one v own a out) p r
+  printed-one own w = record { whole = w.whole; count = omega (arith, w.next, length-one v out h own a) }

@@ -123,8 +123,4 @@ pub ruleset noting = (note-quiet, note-bytes, note-ended)
 
 pub ruleset lines = (lines-none, lines-turn, lines-whole, written-within)
 
-pub ruleset telling = (all-silent, all_noted)
-
 pub ruleset sending = (sent-there, sent-past)
-
-pub ruleset one = (one-written)

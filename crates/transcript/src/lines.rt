@@ -59,9 +59,9 @@ fn write_notes(verb: Option<Verb>, notes: Notes, out: &[u8], text: &mut [u8]) ->
     next
 }
 
-#[tactic(auto, using(crate::proofs::Telling::telling))]
 fn write_for_all(verb: Option<Verb>, answer: Answer, out: &[u8], text: &mut [u8]) -> usize
-    ensures { Written text.old 0 (lines_for_all verb (answer_of answer) out.now) text.new result }
+    requires { (length out.now ≤ least_output) × (text_room ≤ length text.old) }
+    ensures { Printed text.old (lines_for_all verb (answer_of answer) out.now) text.new result }
 {
     let notes = noted(answer);
     if all_silent(&notes) {
@@ -83,7 +83,7 @@ fn tells_all(verb: Option<Verb>) -> bool
     matches!(verb, Some(Verb::Batch | Verb::Tick))
 }
 
-#[tactic(auto, using(crate::proofs::Fits::printing))]
+#[tactic(auto, unfolding(crate::specs::Lines::lines_of))]
 fn write_either(
     verb: Option<Verb>,
     own: Option<u64>,

@@ -46,8 +46,8 @@ pub fn noted(answer: Answer) -> Notes
     ensures { result ≡ notes_of (answer_of answer) }
 {
     match answer {
-        Answer::Ended(f) => [f.f0, f.f1, f.f2, f.f3].map(flag_note),
-        Answer::Sent(c) => [c.c0, c.c1, c.c2, c.c3].map(count_note),
+        Answer::Ended(flags) => flags.map(flag_note),
+        Answer::Sent(counts) => counts.map(count_note),
         _ => [Note::Quiet; 4],
     }
 }

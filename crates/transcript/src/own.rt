@@ -1,11 +1,11 @@
 // The one line of open, close and msg: which session it names, and which bytes.
-ghost use Rattle.std.specs.Prelude.{◌≡◌, option_copied};
-ghost use Rattle.server.specs.Answers.{answer_of, counts_of};
-ghost use Rattle.script.specs.Code.{Written};
-ghost use Rattle.transcript.specs.Lines.{session_named, counts_in, sent_to, bytes_for, line_for_one};
+ghost use Rattle.std.specs.Prelude.{◌≡◌, ◌≤◌, length, option_copied};
+ghost use Rattle.service.specs.Checks.{least_output};
+ghost use Rattle.server.specs.Answers.{answer_of};
+ghost use Rattle.transcript.specs.Lines.{session_named, counts_in, sent_to, bytes_for, line_for_one, text_room, Printed};
 
 use script::{OutputLine, Verb, write_line};
-use server::{Answer, Counts, answer_number};
+use server::{Answer, Counts, SESSIONS, answer_number};
 use table::part;
 
 // 01: "session s writes from s x 16,384".
@@ -23,11 +23,10 @@ fn named(own: Option<u64>, answer: Answer) -> Option<u64>
 
 // The bytes at the start of the output of the session of a number; past the last one none.
 #[tactic(auto, using(crate::proofs::Telling::sending), unfolding(crate::specs::Lines::sent_to, crate::specs::Lines::count_for))]
-fn sent_to(s: u64, c: Counts, out: &[u8]) -> &[u8]
-    ensures { result.now ≡ sent_to (counts_of c) s out.now }
+fn sent_to(s: u64, counts: Counts, out: &[u8]) -> &[u8]
+    ensures { result.now ≡ sent_to counts s out.now }
 {
-    let counts = [c.c0, c.c1, c.c2, c.c3];
-    if s < 4 {
+    if s < SESSIONS {
         let at = s as usize;
         return part(out, at * SESSION_OUTPUT, counts[at]);
     }
@@ -40,12 +39,11 @@ fn bytes_for(own: Option<u64>, answer: Answer, out: &[u8]) -> Option<&[u8]>
     ensures { option_copied result ≡ bytes_for own (counts_in (answer_of answer)) out.now }
 {
     match answer {
-        Answer::Sent(c) => Some(sent_to(own?, c, out)),
+        Answer::Sent(counts) => Some(sent_to(own?, counts, out)),
         _ => None,
     }
 }
 
-#[tactic(auto, using(crate::proofs::Telling::one))]
 pub fn write_for_one(
     verb: Option<Verb>,
     own: Option<u64>,
@@ -53,7 +51,8 @@ pub fn write_for_one(
     out: &[u8],
     text: &mut [u8],
 ) -> usize
-    ensures { Written text.old 0 (line_for_one verb own (answer_of answer) out.now)
+    requires { (length out.now ≤ least_output) × (text_room ≤ length text.old) }
+    ensures { Printed text.old (line_for_one verb own (answer_of answer) out.now)
         text.new result }
 {
     let line = OutputLine {

@@ -1,7 +1,8 @@
 -- `write_for_one`: the answer, its session and its bytes in one line.
 use borrow.Author.Rules.{rules}
-use Rattle.transcript.proofs.Telling.{one}
+use Rattle.transcript.proofs.Telling.{one-written}
+use Rattle.transcript.proofs.Fits.{printed-one}
 use Rattle.transcript.proofs.own.write_for_one.Goals as goal
 
 pub returns : goal.returns
-returns c = search (one, rules)
+returns c = search (one-written, printed-one, rules)
