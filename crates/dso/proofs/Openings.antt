@@ -217,3 +217,10 @@ module _ (m : List ℕ) (r : Result TlvPlace Judgment) (t : TlvPlace) (e : r ≡
 pub data-part : (m : List ℕ) (id : ℕ) (t : TlvPlace) (j : Judgment) → id ≡ field 2 m → j ≡ by_type id t.kind (take (t.value.start + t.value.len - t.value.start) (drop t.value.start m)) → j ≡ by_type (message_id m) t.kind (placed m t).value
 unfolding message_id
 data-part m id t j e h = h ∙ rw (e, add-sub_cancel_left t.value.start t.value.len)
+
+-- What `first_tlv`, `form` and `judge` are proved by.
+pub ruleset reading = (first-end, first-whole)
+
+pub ruleset forming = (form-first, form-counted, form-bad)
+
+pub ruleset judging = (primary-fits, judged-settled)

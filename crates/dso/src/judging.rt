@@ -60,6 +60,7 @@ fn primary(m: &[u8], t: TlvPlace) -> Judgment
 }
 
 // Steps 1 to 5 of 01, without the tests that need the session. Total: a message of any length is judged.
+#[tactic(auto, using(crate::proofs::Openings::judging))]
 pub fn judge(m: &[u8]) -> Judged
     ensures { result ≡ judged m.now }
 {

@@ -25,6 +25,7 @@ fn bad_form(m: &[u8]) -> Judgment
 }
 
 // The first TLV, where TLVs fill the message behind its header.
+#[tactic(auto, using(crate::proofs::Openings::reading))]
 fn first_tlv(m: &[u8]) -> Option<TlvPlace>
     ensures { result ≡ first_place (tlvs (drop header_length m.now)) }
 {
@@ -33,6 +34,7 @@ fn first_tlv(m: &[u8]) -> Option<TlvPlace>
     tlvs_fill(tlvs).then_some(first)
 }
 
+#[tactic(auto, using(crate::proofs::Openings::forming))]
 fn form(m: &[u8]) -> Result<TlvPlace, Judgment>
     ensures { result ≡ start_of (form_of m.now) }
 {
