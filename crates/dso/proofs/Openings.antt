@@ -1,7 +1,6 @@
 -- Laws of steps 1 to 3: when the first TLV decides, and where its data stands.
 -- Assumes nothing.
-use Prim.Native.Nat.{ℕ, ◌+◌, ◌≤◌, ◌-◌}
-use native.Mathlib.Nat.{add-sub_cancel_left}
+use Prim.Native.Nat.{ℕ, ◌+◌, ◌≤◌}
 use native.Mathlib.Omega.{arith}
 use mathlib.Core.Path.{◌≡◌, refl, sym, ap, ap₂, ◌∙◌}
 use mathlib.Core.Bool.{Bool, true, false, cond, not, true≢false, false≢true}
@@ -212,11 +211,6 @@ module _ (m : List ℕ) (r : Result TlvPlace Judgment) (t : TlvPlace) (e : r ≡
   pub judged-primary : (j : Judgment) → j ≡ by_type (message_id m) t.kind (placed m t).value → ◌≡◌ {A = Judged} (record { judgment = j; keepalive = eqb t.kind 1 }) (judged m)
   unfolding judged judgment is_keepalive
   judged-primary j h = rw (found.1, h)
-
--- The part of the message that is lent for the first TLV's data.
-pub data-part : (m : List ℕ) (id : ℕ) (t : TlvPlace) (j : Judgment) → id ≡ field 2 m → j ≡ by_type id t.kind (take (t.value.start + t.value.len - t.value.start) (drop t.value.start m)) → j ≡ by_type (message_id m) t.kind (placed m t).value
-unfolding message_id
-data-part m id t j e h = h ∙ rw (e, add-sub_cancel_left t.value.start t.value.len)
 
 -- What `first_tlv`, `form` and `judge` are proved by.
 pub ruleset reading = (first-end, first-whole)

@@ -187,10 +187,6 @@ prefix-length : (n id fl : ℕ) → length (octets 2 n ++ header id fl) ≡ 14
 unfolding header octets
 prefix-length n id fl = refl
 
-head-length : (k n : ℕ) → length (octets 2 k ++ octets 2 n) ≡ 4
-unfolding octets
-head-length k n = refl
-
 front_length : (m id fl k n : ℕ) → length ((octets 2 m ++ header id fl) ++ (octets 2 k ++ octets 2 n)) ≡ 18
 unfolding header octets
 front_length m id fl k n = refl

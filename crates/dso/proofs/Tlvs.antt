@@ -10,7 +10,7 @@ use lib.ListN.{length, drop, length-drop, drop_of_length-le}
 use lib.Seq.{drop-drop}
 use Rattle.wire.specs.Field.{field}
 use lib.Dec.{ltb}
-use borrow.Author.Tests.{lt-ltb, le-ltb, ltb-true, ltb-false}
+use borrow.Author.Tests.{le-ltb, ltb-true, ltb-false}
 use denote.Param.Members.{Mut, Called}
 use Rattle.std.specs.Iterator.{Yields}
 use Rattle.std.specs.List.{FoldsTo}
@@ -65,14 +65,6 @@ module _ (m : List ℕ) (at : ℕ) where
   pub tlv_at-end : length m ≤ at → tlv_at m at ≡ None
   unfolding tlv_at
   tlv_at-end h = rw (le-ltb at (length m) h)
-
-  pub tlv_at-cut : at < length m → length m < at + 4 + size → tlv_at m at ≡ Some (Err cut_short)
-  unfolding tlv_at
-  tlv_at-cut p h = rw (lt-ltb at (length m) p, lt-ltb (length m) (at + 4 + size) h)
-
-  pub tlv_at-whole : at < length m → at + 4 + size ≤ length m → tlv_at m at ≡ Some (Ok here)
-  unfolding tlv_at
-  tlv_at-whole p h = rw (lt-ltb at (length m) p, le-ltb (length m) (at + 4 + size) h)
 
   -- A whole TLV lies in the message.
   pub whole_here : (t : TlvPlace) → tlv_at m at ≡ Some (Ok t) → (t ≡ here) × (at + 4 + size ≤ length m)

@@ -5,6 +5,7 @@ use Rattle.dso.specs.declared.number.NotImplemented.{NotImplemented}
 use Rattle.dso.specs.declared.number.TlvType.{TlvType}
 use Rattle.dso.specs.declared.number.TlvType.TheVariants.{Keepalive, RetryDelay, Subscribe, Push, Unsubscribe, Reconfirm}
 
+-- The number of a type (RFC 8490, 7; RFC 8765, 6.2 to 6.5).
 abbrev pub type_number : TlvType → ℕ
 type_number Keepalive = keepalive_type
 type_number RetryDelay = retry_delay_type
@@ -13,6 +14,7 @@ type_number Push = push_type
 type_number Unsubscribe = unsubscribe_type
 type_number Reconfirm = reconfirm_type
 
+-- The type that a number stands for; an error where it stands for none that is implemented.
 unfoldable pub type_of : ℕ → Result TlvType NotImplemented
 type_of k =
     cond (eqb k keepalive_type) (Ok Keepalive)

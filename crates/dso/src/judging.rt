@@ -11,7 +11,8 @@ use crate::opening::opened;
 use crate::reader::TlvPlace;
 use wire::read_field;
 
-// With an ID to answer.
+// With an ID to answer. The number becomes a type here and in the next function: done once before both, a judgment takes a
+// tenth more instructions.
 #[tactic(auto, unfolding(crate::specs::Judge::by_type, crate::specs::Types::type_of))]
 fn request(id: MessageId, kind: u16, s: &[u8]) -> Judgment
     requires { id.0 ≡ 0 → ⊥ }

@@ -25,7 +25,7 @@ pub struct TlvPlace {
 }
 
 // The message's end cuts a TLV short.
-#[derive(Clone, Copy, Debug, PartialEq, Eq)]
+#[derive(Clone, Copy)]
 pub struct CutShort;
 
 impl<'a> Reader<'a> {

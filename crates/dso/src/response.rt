@@ -31,6 +31,9 @@ const DELAY: u32 = 300_000;
 
 const DELAY_NOT_IMPLEMENTED: u32 = 3_600_000;
 
+// The flags of a response without an error: QR 1 and the opcode; the RCODE is added.
+const RESPONSE: u16 = 0x8000 + OPCODE * 0x800;
+
 // What the server grants to every Keepalive request.
 pub fn granted() -> Timeouts
     ensures { result ≡ granted_timeouts }
@@ -40,9 +43,6 @@ pub fn granted() -> Timeouts
         keepalive: GRANTED_KEEPALIVE,
     }
 }
-
-// The flags of a response without an error: QR 1 and the opcode; the RCODE is added.
-const RESPONSE: u16 = 0x8000 + OPCODE * 0x800;
 
 impl ReplyCode {
     fn flags(self) -> u16
