@@ -24,7 +24,7 @@ use Rattle.zone.specs.declared.BatchFault.TheVariants.{StoreFull}
 use Rattle.zone.proofs.Stores.{held_cons, none-held, find-alike, find-apart, remove_absent, distinct_head, distinct_tail}
 use Rattle.zone.proofs.Keys.{same_key-true}
 use Rattle.zone.proofs.Memory.{no_record, length-records}
-use Rattle.zone.proofs.Updates.{Timed, timed_turn, timed_all}
+use Rattle.zone.proofs.Updates.{Timed, timed_turn, timed_all, ttl_set_true, ttl_set_false}
 
 -- ---- the index of a key
 
@@ -117,17 +117,16 @@ by : (l : List Record) (r : Record) (p h w : Bool) → is_put r ≡ p → held (
 unfolding applied overfull edit put
 by l r p h w e f g = cc
 
+pub put_held : (l after : List Record) (r : Record) (i : ℕ) → r.ttl ≤ max_ttl → index_of (key_of r) l ≡ Some i
+    → after ≡ map (set_if (key_of r) r.ttl) l → Ok after ≡ applied l r
+put_held l after r i t e s =
+    ap Ok s ∙ sym (by l r true true (leb max_records (length l)) (le-leb r.ttl max_ttl t) (held-index (key_of r) l ∙ ap is_some e) refl)
+
 module _ (a : List ℕ) (n : ℕ) (r : Record) (few : n ≤ max_records) where
   long : length (records_of n a) ≡ n
   long = length-records n a ∙ min-eq_left few
 
   module _ (t : r.ttl ≤ max_ttl) where
-    pub put_held : (i : ℕ) (b : List ℕ) → index_of (key_of r) (records_of n a) ≡ Some i
-        → records_of n b ≡ map (set_if (key_of r) r.ttl) (records_of n a) → Ok (records_of n b) ≡ applied (records_of n a) r
-    put_held i b e s =
-        ap Ok s
-        ∙ sym (by (records_of n a) r true true (leb max_records (length (records_of n a))) (le-leb r.ttl max_ttl t) (held-index (key_of r) (records_of n a) ∙ ap is_some e) refl)
-
     module _ (e : index_of (key_of r) (records_of n a) ≡ None) where
       absent : held (key_of r) (records_of n a) ≡ false
       absent = held-index (key_of r) (records_of n a) ∙ ap is_some e
@@ -150,4 +149,4 @@ module _ (a : List ℕ) (n : ℕ) (r : Record) (few : n ≤ max_records) where
 
 pub ruleset of_putting = (put_held, put_full, put_new)
 
-pub ruleset of_sweeping = (timed_from, timed_turn, timed_all)
+pub ruleset of_sweeping = (timed_from, timed_turn, timed_all, ttl_set_true, ttl_set_false)

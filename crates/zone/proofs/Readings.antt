@@ -10,15 +10,17 @@ use lib.Dec.{leb}
 use Rattle.std.specs.Prelude.{None, Some}
 use Rattle.wire.specs.Field.{field}
 use Rattle.wire.specs.Part.{part}
-use Rattle.wire.specs.Name.{within}
+use Rattle.wire.specs.Name.{max_name, within}
 use Rattle.wire.specs.Reading.{name_at}
-use Rattle.wire.proofs.Names.{name_length-pos, name_length-le}
+use Rattle.wire.proofs.Names.{name_length-pos, name_length-le, name_length-max}
 use Rattle.zone.specs.Record.{Record}
-use Rattle.zone.specs.Layout.{fixed_size, read_record}
+use Rattle.zone.specs.Layout.{fixed_size, size, read_record}
 use Rattle.zone.specs.Batch.{max_rdata, is_plain, allowed}
 use Rattle.zone.specs.Table.{record_from}
-use Rattle.zone.specs.Edit.{ttl_may}
-use Rattle.zone.proofs.Layouts.{rdlen_of, record_in, read_record-nameless, read_record-some, read_record-none}
+use Rattle.zone.specs.Edit.{record_of, FitsBlock, ttl_may}
+use Rattle.zone.specs.declared.reading.Edit.{Edit}
+use Rattle.zone.proofs.Goods.{allowed-parts}
+use Rattle.zone.proofs.Layouts.{rdlen_of, record_in, read_record-nameless, read_record-some, read_record-none, read_record-stands, stands-owner, size-le, size-pos}
 
 -- ---- values, in the order in which the code asks them
 
@@ -76,3 +78,18 @@ module _ (s : List ℕ) (at : ℕ) where
           ap Some e ∙ sym (read_record-some (drop at s) n f (omega (arith, long, place 2 8)))
 
 pub ruleset of_reading = (edit_nameless, name_within, edit_short, edit_whole)
+
+name-max : (l : List ℕ) (r : Record) → read_record l ≡ Some r → length r.owner ≤ max_name
+name-max l r h =
+    let (n, t) = read_record-stands l r h in
+    omega (arith, stands-owner l r n t, name_length-max l n t.named)
+
+-- An edit that was read lies within the octets; and one whose values are allowed has room in a block.
+module _ (bytes : List ℕ) (at : ℕ) (e : Edit) (h : Some (record_of e) ≡ read_record (drop at bytes)) where
+  pub read_within : at + size (record_of e) ≤ length bytes
+  read_within = omega (arith, size-le (drop at bytes) (record_of e) (sym h), size-pos (record_of e), length-drop at bytes)
+
+  pub read_fits : (zone : List ℕ) → allowed zone (record_of e) ≡ true → FitsBlock e
+  read_fits zone v = (name-max (drop at bytes) (record_of e) (sym h), (allowed-parts zone (record_of e) v).rdata)
+
+pub ruleset read_room = (read_within, read_fits)

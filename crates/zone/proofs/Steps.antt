@@ -1,6 +1,6 @@
 -- Laws of the steps of a batch in lent memory, and of the loop over them.
 use Prim.Native.Nat.{ℕ, suc, min, ◌+◌, ◌-◌, ◌*◌, ◌≤◌, ◌<◌}
-use mathlib.Core.Path.{◌≡◌, refl, sym, ap, ap₂, ◌∙◌, subst}
+use mathlib.Core.Path.{◌≡◌, refl, sym, ap, ap₂, ◌∙◌}
 use mathlib.Core.Bool.{Bool, true, false}
 use mathlib.Core.List.{List, map}
 use native.Mathlib.Nat.{min-eq_left, min-le_right}
@@ -9,22 +9,18 @@ use lib.ListN.{length, take, drop, length-drop, drop_of_length-le}
 use lib.Seq.{sets, drop-drop, length-take-le}
 use Rattle.std.specs.Prelude.{Option, None, Some, Result, Ok, Err}
 use Rattle.wire.specs.Part.{part}
-use Rattle.wire.specs.Name.{max_name}
-use Rattle.wire.proofs.Names.{name_length-max}
 use Rattle.wire.proofs.Writes.{take-written}
 use Rattle.table.specs.Blocks.{blocks}
 use Rattle.table.proofs.Blocks.{blocks-front}
 use Rattle.zone.specs.Record.{Record}
 use Rattle.zone.specs.Layout.{size, read_record}
-use Rattle.zone.specs.Batch.{max_records, max_edits, max_rdata, allowed, overfull, Edited, faulty, edited, batch_of}
+use Rattle.zone.specs.Batch.{max_records, max_edits, allowed, overfull, Edited, faulty, edited, batch_of}
 use Rattle.zone.specs.Table.{block_size, area_size, rec_of, records_of}
 use Rattle.zone.specs.Edit.{checked, checked_at}
 use Rattle.zone.specs.Update.{applied}
 use Rattle.zone.specs.Batches.{edited_of}
 use Rattle.zone.specs.declared.BatchFault.{BatchFault}
-use Rattle.zone.specs.declared.BatchFault.TheVariants.{TooManyEdits, Unreadable, BadValue}
-use Rattle.zone.proofs.Goods.{allowed-parts}
-use Rattle.zone.proofs.Layouts.{read_record-stands, stands-owner, size-le}
+use Rattle.zone.specs.declared.BatchFault.TheVariants.{TooManyEdits}
 use Rattle.zone.proofs.Batches.{edited-end, edited-more, edited-unreadable, edited-bad, edited-full, edited-step}
 
 -- ---- an edit that was checked
@@ -56,31 +52,6 @@ edited_first k zone l store h = go (read_record l) refl
     go : (o : Option Record) → read_record l ≡ o → edited (suc k) zone l store ≡ after_check k zone l store (checked zone (read_record l))
     go None e = edited-unreadable k zone l store h e ∙ rw e refl
     go (Some r) e = rw e (value r e (allowed zone r) refl)
-
--- A checked edit stands in the octets, and its parts have room in a block.
-pub record Checked (zone l : List ℕ) (r : Record) : Type 0 where
-  pub within : size r ≤ length l
-  pub owner : length r.owner ≤ max_name
-  pub rdata : length r.rdata ≤ max_rdata
-
-name-max : (l : List ℕ) (r : Record) → read_record l ≡ Some r → length r.owner ≤ max_name
-name-max l r h =
-    let (n, t) = read_record-stands l r h in
-    omega (arith, stands-owner l r n t, name_length-max l n t.named)
-
-pub checked_parts : (zone l : List ℕ) (r : Record) → Ok r ≡ checked zone (read_record l) → Checked zone l r
-checked_parts zone l r e = go (read_record l) refl
-  where
-    value : (q : Record) → read_record l ≡ Some q → (b : Bool) → allowed zone q ≡ b → Checked zone l r
-    value q f true a =
-        let w : Ok r ≡ Ok q = e ∙ rw (f, a) refl in
-        let v : q ≡ r = cc in
-        subst (Checked zone l) v (record { within = size-le l q f; owner = name-max l q f; rdata = (allowed-parts zone q a).rdata })
-    value q f false a = let w : Ok r ≡ Err BadValue = e ∙ rw (f, a) refl in cc
-
-    go : (o : Option Record) → read_record l ≡ o → Checked zone l r
-    go None f = let w : Ok r ≡ Err Unreadable = e ∙ rw f refl in cc
-    go (Some q) f = value q f (allowed zone q) refl
 
 -- ---- the loop
 

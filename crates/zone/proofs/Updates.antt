@@ -18,7 +18,7 @@ use Rattle.zone.specs.Record.{Record, Key, key_of, same_key}
 use Rattle.zone.specs.Store.{with_ttl, set_if, remove}
 use Rattle.zone.specs.Batch.{max_records}
 use Rattle.zone.specs.Table.{block_size, area_size, block_at, rec_of, records_of}
-use Rattle.zone.specs.Update.{keyed, TtlSet, TtlSetIf, DroppedIf}
+use Rattle.zone.specs.Update.{keyed, TtlSet}
 use Rattle.zone.proofs.Lists.{keep_append}
 use Rattle.zone.proofs.Memory.{no_record, length-records, records-at}
 
@@ -100,6 +100,10 @@ ttl_set t a i b l h f e = record {
       ∙ ap (set (records_of n a) i) (rec_of-timed (block_at a i) t (omega (arith, length-block a i l h)) f);
 }
 
+-- The same where the block's record has a key.
+pub record TtlSetIf (k : Key) (t : ℕ) (area : List ℕ) (i : ℕ) (after : List ℕ) : Type 0 where
+  pub store : (n : ℕ) → n ≤ max_records → i < n → records_of n after ≡ set (records_of n area) i (set_if k t (rec_of (block_at area i)))
+
 module _ (k : Key) (t : ℕ) (a : List ℕ) (i : ℕ) (b : List ℕ) (u : Bool) (f : u ≡ keyed a i k) where
   chosen : (v : Bool) → u ≡ v → set_if k t (rec_of (block_at a i)) ≡ cond v (with_ttl t (rec_of (block_at a i))) (rec_of (block_at a i))
   chosen v g = ap (λ (x : Bool). cond x (with_ttl t (rec_of (block_at a i))) (rec_of (block_at a i))) (sym f ∙ g)
@@ -147,20 +151,11 @@ records_slid n a b i l h g e =
     ∙ ap (map rec_of) (blocks-slid block_size n a i g (omega arith)) ∙ map-cut rec_of i (blocks block_size n a)
     ∙ ap (cut i) (sym (records-plain n a h))
 
-module _ (k : Key) (a : List ℕ) (n i : ℕ) (b : List ℕ) (u : Bool) (f : u ≡ keyed a i k) where
-  pub dropped_if_true : u ≡ true → i < n → records_of (n - 1) b ≡ cut i (records_of n a) → DroppedIf k a n i b (n - 1)
-  dropped_if_true g h s = record {
-    few = omega arith;
-    most = omega arith;
-    store = s ∙ ap (λ (u : Bool). cond u (cut i (records_of n a)) (records_of n a)) (sym g ∙ f);
-  }
-
-  pub dropped_if_false : u ≡ false → DroppedIf k a n i a n
-  dropped_if_false g = record {
-    few = omega arith;
-    most = omega arith;
-    store = ap (λ (u : Bool). cond u (cut i (records_of n a)) (records_of n a)) (sym g ∙ f);
-  }
+-- One record is gone where it has the key; the count says so.
+pub record DroppedIf (k : Key) (area : List ℕ) (n i : ℕ) (after : List ℕ) (m : ℕ) : Type 0 where
+  pub few : m ≤ n
+  pub most : n ≤ m + 1
+  pub store : records_of m after ≡ cond (keyed area i k) (cut i (records_of n area)) (records_of n area)
 
 abbrev others : Key → Record → Bool
 others k r = not (same_key (key_of r) k)
@@ -212,9 +207,5 @@ pub dropped_all : (k : Key) (count : ℕ) (a b : List ℕ) (n i : ℕ) → Dropp
 dropped_all k count a b n i s h =
     let z : i ≡ 0 = omega arith in
     (s.few, sym (s.store ∙ ap (λ (i : ℕ). keep (others k) (take i (records_of n b)) ++ drop i (records_of n b)) z))
-
-pub ruleset of_timing = (ttl_set_true, ttl_set_false)
-
-pub ruleset of_dropping = (dropped_if_true, dropped_if_false)
 
 pub ruleset of_thinning = (dropped_none, dropped_turn, dropped_all)

@@ -1,8 +1,8 @@
 // One edit of a batch: reading it, and whether its values are allowed.
-ghost use Rattle.std.specs.Prelude.{◌^◌, ◌<◌, ◌≡◌, drop, option_map};
+ghost use Rattle.std.specs.Prelude.{◌+◌, ◌^◌, ◌≤◌, ◌<◌, ◌≡◌, length, drop, option_map, IfOk};
 ghost use Rattle.zone.specs.Layout.{size, read_record};
 ghost use Rattle.zone.specs.Batch.{is_plain, allowed as allowed_in};
-ghost use Rattle.zone.specs.Edit.{record_of, ttl_may, ok_map, checked_at};
+ghost use Rattle.zone.specs.Edit.{record_of, FitsBlock, ttl_may, ok_map, checked_at};
 
 use crate::BatchFault;
 use crate::records::{MAX_RDATA, RecordKey};
@@ -18,7 +18,7 @@ const REMOVE_TTL: u32 = 0xffff_ffff;
 const ANY: u16 = 255;
 
 // The octets of type, class, TTL and RDLEN.
-pub(crate) const FIXED: usize = 10;
+const FIXED: usize = 10;
 
 // An edit of a batch, as it stands in the batch's octets: the record that it puts or removes.
 #[derive(Clone, Copy)]
@@ -83,9 +83,12 @@ pub fn allowed(zone: &[u8], edit: Edit<'_>) -> bool
         && wire::within(zone, edit.key.name)
 }
 
-// An edit that was read and whose values are allowed; or why not.
+// An edit that was read and whose values are allowed; or why not. One that is taken lies within the octets, and has room in a block.
+#[tactic(auto, using(crate::proofs::Readings::read_room))]
 pub fn checked_edit<'a>(zone: &[u8], bytes: &'a [u8], at: usize) -> Result<Edit<'a>, BatchFault>
-    ensures { ok_map record_of result ≡ checked_at zone.now bytes.now at }
+    ensures edit { ok_map record_of result ≡ checked_at zone.now bytes.now at }
+    ensures within { IfOk result (λ e. at + size (record_of e) ≤ length bytes.now) }
+    ensures room { IfOk result FitsBlock }
 {
     let edit = read_edit(bytes, at).ok_or(BatchFault::Unreadable)?;
     if allowed(zone, edit) {
