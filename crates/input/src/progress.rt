@@ -8,6 +8,8 @@ use table::part;
 // The chunk that was read last.
 pub type Input = [u8; 65536];
 
+// `ready` and `more` stay flags: each goes with either of the other, and the numbers mean the same in all four cases, so an enum would
+// have them in each of its variants.
 #[derive(Clone, Copy)]
 pub struct Progress {
     // The chunk stands at the front of lent memory, so many octets of it.

@@ -8,6 +8,7 @@ use crate::writer::put;
 // line may have. What would go beyond is dropped: the line is unreadable without it.
 pub type Line = [u8; 32769];
 
+// `ended` stays a flag: both numbers mean the same with it and without, so an enum would have them in each of its variants.
 #[derive(Clone, Copy)]
 pub struct Taken {
     // How many octets of the line are held now.

@@ -53,8 +53,8 @@ fn write_notes(verb: Option<Verb>, notes: Notes, out: &[u8], text: &mut [u8]) ->
     ensures { Written text.old 0 (note_lines verb out.now 0 notes) text.new result }
 {
     let mut next = 0;
-    for s in 0..4 {
-        next = write_note(verb, s, notes[s], out, text, next);
+    for (s, note) in notes.iter().enumerate() {
+        next = write_note(verb, s, *note, out, text, next);
     }
     next
 }

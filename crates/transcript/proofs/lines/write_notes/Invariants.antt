@@ -6,6 +6,6 @@ use Rattle.transcript.proofs.lines.write_notes.Given as goal
 
 abbrev pub invariant-loop-s : goal.invariant-loop-s
 invariant-loop-s l = record {
-  written : Written l.initial.text 0 (note_lines l.verb l.out 0 (take l.s l.notes)) l.text l.next;
+  written : Written l.initial.text 0 (note_lines l.verb l.out 0 (take l.s l.fn.notes)) l.text l.next;
   within : l.next ≤ length l.text;
 }
