@@ -6,10 +6,9 @@ use mathlib.Core.Bool.{Bool, true, false, ◌&&◌}
 use mathlib.Core.List.{List, [], ◌∷◌, ◌++◌}
 use native.Mathlib.Nat.{mod-one, pow-succ', one-le-pow, mod-eq_of_lt, mul-add-div_right, mul-add-mod_self_right, mod-lt, mul_assoc, div-add-mod', div-one, div-lt_iff_lt-mul, div-div-eq-div-mul, suc-add, zero-add, add_comm, le_of_suc-le-suc, not-suc-le-zero}
 use native.Mathlib.Omega.{arith}
-use lib.ListN.{length, take, drop, get_or, replicate, drop_of_length-le}
+use lib.ListN.{length, take, drop, get_or, drop_of_length-le}
 use Rattle.std.specs.Int.{w16, w32, to_be_bytes, from_be_bytes, bytes_high_first}
 use lib.Arith.{mod-mul, digits_lt, digits_div}
-use lib.Seq.{drop-drop}
 use lib.Pow.{pow-add, are_bytes}
 use lib.Dec.{lit<, ltb}
 use borrow.Author.Tests.{ltb-true, lt-ltb}
@@ -152,12 +151,6 @@ field-one [] (suc at) = refl
 field-one (b ∷ l) zero = omega arith
 field-one (b ∷ l) (suc at) = field-one l at
 
--- Two fields that stand side by side, read as one.
-pub field-join : (n m : ℕ) (l : List ℕ) (at high low : ℕ) → high ≡ field n (drop at l) → low ≡ field m (drop (at + n) l)
-    → high * 256 ^ m + low ≡ field (n + m) (drop at l)
-field-join n m l at high low p q =
-    ap₂ (λ (h k : ℕ). h * 256 ^ m + k) p (q ∙ ap (field m) (sym (drop-drop n at l))) ∙ sym (field-split n m (drop at l))
-
 -- ---- both round trips
 
 pub field-octets-mod : (n x : ℕ) (rest : List ℕ) → field n (octets n x ++ rest) ≡ x % 256 ^ n
@@ -189,19 +182,20 @@ be_octets zero x = refl
 be_octets (suc zero) x = ap (λ (k : ℕ). k % 256 ∷ []) (sym (div-one x))
 be_octets (suc (suc n)) x = ap (λ (l : List ℕ). x / 256 ^ suc n % 256 ∷ l) (be_octets (suc n) x)
 
-pub be_two : (l : List ℕ) → from_be_bytes w16 (take 2 (l ++ replicate 2 0)) ≡ field 2 l
+pub be_two : (l : List ℕ) (a b : ℕ) → a ≡ get_or l 0 0 → b ≡ get_or l 1 0 → from_be_bytes w16 (a ∷ b ∷ []) ≡ field 2 l
 unfolding field
-be_two [] = refl
-be_two (a ∷ []) = omega arith
-be_two (a ∷ b ∷ l) = omega arith
+be_two [] a b p q = omega arith
+be_two (x ∷ []) a b p q = omega arith
+be_two (x ∷ y ∷ l) a b p q = omega arith
 
-pub be_four : (l : List ℕ) → from_be_bytes w32 (take 4 (l ++ replicate 4 0)) ≡ field 4 l
+pub be_four : (l : List ℕ) (a b c d : ℕ) → a ≡ get_or l 0 0 → b ≡ get_or l 1 0 → c ≡ get_or l 2 0 → d ≡ get_or l 3 0
+    → from_be_bytes w32 (a ∷ b ∷ c ∷ d ∷ []) ≡ field 4 l
 unfolding field
-be_four [] = refl
-be_four (a ∷ []) = omega arith
-be_four (a ∷ b ∷ []) = omega arith
-be_four (a ∷ b ∷ c ∷ []) = omega arith
-be_four (a ∷ b ∷ c ∷ d ∷ l) = omega arith
+be_four [] a b c d p q r s = omega arith
+be_four (x ∷ []) a b c d p q r s = omega arith
+be_four (x ∷ y ∷ []) a b c d p q r s = omega arith
+be_four (x ∷ y ∷ z ∷ []) a b c d p q r s = omega arith
+be_four (x ∷ y ∷ z ∷ w ∷ l) a b c d p q r s = omega arith
 
 pub two_be : (x : ℕ) → octets 2 x ≡ to_be_bytes w16 x
 two_be x = sym (be_octets 2 x)

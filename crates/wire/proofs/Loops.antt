@@ -5,14 +5,16 @@ use mathlib.Core.Bool.{Bool, true, false, cond, ◌&&◌, ◌||◌}
 use mathlib.Core.List.{List, [], ◌∷◌, map}
 use Rattle.std.specs.Prelude.{Option, None, Some}
 use native.Mathlib.Omega.{arith}
-use lib.ListN.{length, take, drop, get_or, length-take, length-map, get_or-map, drop_of_length-le}
-use lib.Seq.{drop-cons, drop-drop, get_or-take}
+use lib.ListN.{length, take, drop, get_or, length-map, drop_of_length-le}
+use lib.Seq.{drop-cons, drop-drop}
+use Rattle.std.proofs.lemmas.List.{drop-map, get_or-map, map-id, take-map, take_min}
+use Rattle.std.proofs.Common.{min}
 use lib.Dec.{eqb}
 use borrow.Author.Tests.{le-leb, lt-leb, ne_eqb}
 use Rattle.wire.specs.Name.{max_label, max_name, after, labels, name_length, lower, lowered, same_octets, same_name, ends_in, within}
 use Rattle.wire.specs.Case.{caseless}
 use Rattle.wire.specs.Reading.{name_at}
-use Rattle.wire.proofs.Names.{after-zero, after-after, labels-drop, lower-cases, lowered-take, lowered-drop, same_octets-true, same_octets-of, same_name-of, same_name-length, ends_in-drop}
+use Rattle.wire.proofs.Names.{after-zero, after-after, labels-drop, lower-cases, same_octets-true, same_octets-of, same_name-length, ends_in-drop}
 use Rattle.wire.proofs.Writes.{drop-slice}
 
 true-false : (t : Bool) → (t ≡ true → ⊥) → false ≡ t
@@ -22,49 +24,50 @@ true-false false h = refl
 -- ---- reading a name
 
 -- i octets are passed, whole labels all of them.
-pub record Read (s : List ℕ) (i : ℕ) : Type 0 where
-  pub rest : name_length s ≡ after i (labels 0 (drop i (take max_name s)))
+pub record Read (front : List ℕ) (i : ℕ) : Type 0 where
+  pub rest : labels 0 front ≡ after i (labels 0 (drop i front))
 
-pub read_none : (s : List ℕ) → Read s 0
+pub read_none : (front : List ℕ) → Read front 0
+read_none front = record { rest = sym (after-zero (labels 0 front)) }
+
+-- At most so many octets are looked at.
+pub name_length-of : (s : List ℕ) (m : ℕ) (r : Option ℕ) → m ≡ min (length s) 255 → r ≡ labels 0 (take m s) → r ≡ name_length s
 unfolding name_length
-read_none s = record { rest = sym (after-zero (labels 0 (take max_name s))) }
+name_length-of s m r h e =
+    let n : m ≡ min max_name (length s) = omega arith in
+    e ∙ ap (labels 0) (ap (λ (k : ℕ). take k s) n ∙ take_min max_name s)
 
-pub read_past : (s : List ℕ) (i : ℕ) → Read s i → length (take max_name s) ≤ i → None ≡ name_length s
+pub read_end : (front : List ℕ) (i : ℕ) → Read front i → length front ≤ i → None ≡ labels 0 front
 unfolding labels
-read_past s i r h =
-    sym (r.rest ∙ ap (λ (l : List ℕ). after i (labels 0 l)) (drop_of_length-le (take max_name s) h))
+read_end front i r h = sym (r.rest ∙ ap (λ (l : List ℕ). after i (labels 0 l)) (drop_of_length-le front h))
 
-module _ (s : List ℕ) (i : ℕ) (r : Read s i) (h : i < length s) (k : i < max_name) where
+module _ (front : List ℕ) (i : ℕ) (r : Read front i) (b : ℕ) (h : i < length front) (q : b ≡ get_or front i b) where
   -- The octet that is next, and what lies behind it.
-  next : drop i (take max_name s) ≡ get_or s i 0 ∷ drop (suc i) (take max_name s)
-  next = drop-cons (take max_name s) i 0 (omega (arith, length-take max_name s))
-      ∙ ap (λ (b : ℕ). b ∷ drop (suc i) (take max_name s)) (get_or-take max_name s i 0 k)
+  next : drop i front ≡ b ∷ drop (suc i) front
+  next = drop-cons front i b h ∙ ap (λ (c : ℕ). c ∷ drop (suc i) front) (sym q)
 
-  pub read-zero : get_or s i 0 ≡ 0 → Some (i + 1) ≡ name_length s
+  pub read-zero : b ≡ 0 → Some (i + 1) ≡ labels 0 front
   unfolding labels
-  read-zero e = sym (r.rest ∙ ap (λ (l : List ℕ). after i (labels 0 l)) (next ∙ ap (λ (b : ℕ). b ∷ drop (suc i) (take max_name s)) e))
+  read-zero e = sym (r.rest ∙ ap (λ (l : List ℕ). after i (labels 0 l)) (next ∙ ap (λ (c : ℕ). c ∷ drop (suc i) front) e))
 
-  pub read-over : max_label < get_or s i 0 → None ≡ name_length s
+  pub read-over : max_label < b → None ≡ labels 0 front
   unfolding labels
   read-over e =
-      let b : ℕ = get_or s i 0 in
-      let t : List ℕ = drop (suc i) (take max_name s) in
+      let t : List ℕ = drop (suc i) front in
       sym (r.rest ∙ ap (λ (l : List ℕ). after i (labels 0 l)) next
       ∙ ap₂ (λ (x y : Bool). after i (cond x (Some 1) (cond y (after 1 (labels b t)) None))) (ne_eqb b 0 (λ z. omega arith)) (lt-leb b max_label e))
 
-  pub read-label : (get_or s i 0 ≡ 0 → ⊥) → get_or s i 0 ≤ max_label → Read s (i + (get_or s i 0 + 1))
+  pub read-label : (b ≡ 0 → ⊥) → b ≤ max_label → Read front (i + (b + 1))
   unfolding labels
   read-label e f =
-      let b : ℕ = get_or s i 0 in
-      let w : List ℕ = take max_name s in
       let n : i + (1 + b) ≡ i + (b + 1) = omega arith in
       let m : suc i + b ≡ i + (b + 1) = omega arith in
       record {
         rest = r.rest ∙ ap (λ (l : List ℕ). after i (labels 0 l)) next
-            ∙ ap₂ (λ (x y : Bool). after i (cond x (Some 1) (cond y (after 1 (labels b (drop (suc i) w))) None))) (ne_eqb b 0 e) (le-leb b max_label f)
-            ∙ ap (λ (o : Option ℕ). after i (after 1 o)) (labels-drop b (drop (suc i) w) ∙ ap (λ (l : List ℕ). after b (labels 0 l)) (drop-drop b (suc i) w ∙ ap (λ (j : ℕ). drop j w) m))
-            ∙ ap (after i) (after-after 1 b (labels 0 (drop (i + (b + 1)) w))) ∙ after-after i (1 + b) (labels 0 (drop (i + (b + 1)) w))
-            ∙ ap (λ (j : ℕ). after j (labels 0 (drop (i + (b + 1)) w))) n;
+            ∙ ap₂ (λ (x y : Bool). after i (cond x (Some 1) (cond y (after 1 (labels b (drop (suc i) front))) None))) (ne_eqb b 0 e) (le-leb b max_label f)
+            ∙ ap (λ (o : Option ℕ). after i (after 1 o)) (labels-drop b (drop (suc i) front) ∙ ap (λ (l : List ℕ). after b (labels 0 l)) (drop-drop b (suc i) front ∙ ap (λ (j : ℕ). drop j front) m))
+            ∙ ap (after i) (after-after 1 b (labels 0 (drop (i + (b + 1)) front))) ∙ after-after i (1 + b) (labels 0 (drop (i + (b + 1)) front))
+            ∙ ap (λ (j : ℕ). after j (labels 0 (drop (i + (b + 1)) front))) n;
       }
 
 pub name_at_past : (s : List ℕ) (at : ℕ) → length s ≤ at → None ≡ name_at s at
@@ -157,29 +160,43 @@ module _ (x y : List ℕ) (i : ℕ) (r : Compared x y true i) where
       (same_octets-parts at x y ∙ ap (λ (u : Bool). f && u) (sym e))
       (e ∙ same_octets-parts (i - at) (drop at x) (drop at y) ∙ ap (λ (u : Bool). g && u) (ap₂ same_octets (d x) (d y) ∙ sym r.whole))
 
-pub rest-slice : (a b : List ℕ) (at : ℕ) (t : Bool)
-    → t ≡ same_octets (take (length a - at) (drop at a)) (take (length b - at) (drop at b)) → t ≡ same_octets (drop at a) (drop at b)
-rest-slice a b at t e = e ∙ ap₂ same_octets (drop-slice a at) (drop-slice b at)
-
 pub unlike-length : (x y : List ℕ) → (length x ≡ length y → ⊥) → false ≡ same_octets x y
 unlike-length x y h = true-false (same_octets x y) (λ e. h (ap length (same_octets-true x y e)))
 
 -- ---- what octets are mapped to, side by side
 
-module _ (f : ℕ → ℕ) (z : f 0 ≡ 0) (a b : List ℕ) where
+module _ (f : ℕ → ℕ) (a b : List ℕ) where
   pub mapped-none : length a ≡ length b → Compared (map f a) (map f b) true 0
   mapped-none h = compared-none (map f a) (map f b) (length-map a f ∙ h ∙ sym (length-map b f))
 
   module _ (same : Bool) (i : ℕ) (r : Compared (map f a) (map f b) same i) where
-    pub mapped-octet : (u v : ℕ) → u ≡ f (get_or a i 0) → v ≡ f (get_or b i 0) → i < length a → Compared (map f a) (map f b) (same && eqb u v) (i + 1)
-    mapped-octet u v eu ev h =
-        compared-octet (map f a) (map f b) same i r u v (eu ∙ sym (at-mapped a)) (ev ∙ sym (at-mapped b)) (omega (arith, length-map a f))
-      where
-        at-mapped : (l : List ℕ) → get_or (map f l) i 0 ≡ f (get_or l i 0)
-        at-mapped l = ap (get_or (map f l) i) (sym z) ∙ get_or-map f l i 0
+    -- The octets of both that are next, as f sees them.
+    pub mapped-octet : (u v : ℕ) → u ≡ f (get_or a i 0) → v ≡ f (get_or b i 0) → i < length a → i < length b
+        → Compared (map f a) (map f b) (same && eqb u v) (i + 1)
+    mapped-octet u v eu ev h k =
+        compared-octet (map f a) (map f b) same i r u v (eu ∙ sym (get_or-map f a i 0 0 h)) (ev ∙ sym (get_or-map f b i 0 0 k)) (omega (arith, length-map a f))
 
     pub mapped_end : length a ≤ i → same ≡ same_octets (map f a) (map f b)
     mapped_end h = compared-end (map f a) (map f b) same i r (omega (arith, length-map a f))
+
+  -- Parts of both, as the code lends them.
+  pub mapped-slice : (i n : ℕ) (t : Bool) → t ≡ same_octets (map f (take n (drop i a))) (map f (take n (drop i b)))
+      → t ≡ same_octets (take n (drop i (map f a))) (take n (drop i (map f b)))
+  mapped-slice i n t e = e ∙ ap₂ same_octets (part-mapped a) (part-mapped b)
+    where
+      part-mapped : (l : List ℕ) → map f (take n (drop i l)) ≡ take n (drop i (map f l))
+      part-mapped l = sym (take-map f n (drop i l)) ∙ ap (take n) (sym (drop-map f i l))
+
+  pub mapped-rest : (at : ℕ) (t : Bool) → t ≡ same_octets (map f (take (length a - at) (drop at a))) (map f (take (length b - at) (drop at b)))
+      → t ≡ same_octets (drop at (map f a)) (drop at (map f b))
+  mapped-rest at t e = e ∙ ap₂ same_octets (rest-mapped a) (rest-mapped b)
+    where
+      rest-mapped : (l : List ℕ) → map f (take (length l - at) (drop at l)) ≡ drop at (map f l)
+      rest-mapped l = ap (map f) (drop-slice l at) ∙ sym (drop-map f at l)
+
+-- Octets as they stand.
+pub as-they-stand : (a b : List ℕ) (t : Bool) → t ≡ same_octets (map (λ (x : ℕ). x) a) (map (λ (x : ℕ). x) b) → t ≡ same_octets a b
+as-they-stand a b t e = e ∙ ap₂ same_octets (map-id a) (map-id b)
 
 -- ---- two names side by side: their lowered octets are
 
@@ -191,18 +208,9 @@ lowered-caseless : (a : List ℕ) → map caseless (lowered a) ≡ map caseless 
 lowered-caseless [] = refl
 lowered-caseless (b ∷ a) = ap₂ (λ (c : ℕ) (l : List ℕ). c ∷ l) (lower-caseless b) (lowered-caseless a)
 
-pub caseless-zero : caseless 0 ≡ 0
-unfolding caseless
-caseless-zero = refl
-
-pub lower-zero : lower 0 ≡ 0
-unfolding lower
-lower-zero = refl
-
 -- Names that are the same are so but for case.
-pub unlike-caseless : (a b : List ℕ) → false ≡ same_octets (map caseless a) (map caseless b) → false ≡ same_name a b
-unfolding same_name
-unlike-caseless a b e = true-false (same_name a b) (λ s. differs (e ∙ near (same_octets-true (lowered a) (lowered b) s)))
+pub unlike-caseless : (a b : List ℕ) → false ≡ same_octets (map caseless a) (map caseless b) → false ≡ same_octets (lowered a) (lowered b)
+unlike-caseless a b e = true-false (same_octets (lowered a) (lowered b)) (λ s. differs (e ∙ near (same_octets-true (lowered a) (lowered b) s)))
   where
     differs : ◌≡◌ {A = Bool} false true → ⊥
     differs d = absurd (let z : ◌≡◌ {A = ℕ} 0 1 = cc in omega arith)
@@ -210,65 +218,31 @@ unlike-caseless a b e = true-false (same_name a b) (λ s. differs (e ∙ near (s
     near : lowered a ≡ lowered b → same_octets (map caseless a) (map caseless b) ≡ true
     near s = same_octets-of (map caseless a) (map caseless b) (sym (lowered-caseless a) ∙ ap (map caseless) s ∙ lowered-caseless b)
 
-pub alike_end : (a b : List ℕ) (same : Bool) (i : ℕ) → Compared (lowered a) (lowered b) same i → length a ≤ i → same ≡ same_name a b
-unfolding same_name
-alike_end a b same i r h = mapped_end lower lower-zero a b same i r h
-
-pub alike-whole : (a b : List ℕ) → true ≡ same_octets a b → true ≡ same_name a b
-alike-whole a b e = sym (same_name-of a b (ap lowered (same_octets-true a b (sym e))))
-
-pub lowered-slice : (a b : List ℕ) (i n : ℕ) (t : Bool) → t ≡ same_name (take n (drop i a)) (take n (drop i b))
-    → t ≡ same_octets (take n (drop i (lowered a))) (take n (drop i (lowered b)))
-unfolding same_name
-lowered-slice a b i n t e = e ∙ ap₂ same_octets (cut a) (cut b)
-  where
-    cut : (l : List ℕ) → lowered (take n (drop i l)) ≡ take n (drop i (lowered l))
-    cut l = lowered-take n (drop i l) ∙ ap (take n) (lowered-drop i l)
-
-pub lowered-rest : (a b : List ℕ) (at : ℕ) (t : Bool)
-    → t ≡ same_name (take (length a - at) (drop at a)) (take (length b - at) (drop at b)) → t ≡ same_octets (drop at (lowered a)) (drop at (lowered b))
-unfolding same_name
-lowered-rest a b at t e = e ∙ ap₂ same_octets (cut a) (cut b)
-  where
-    cut : (l : List ℕ) → lowered (take (length l - at) (drop at l)) ≡ drop at (lowered l)
-    cut l = ap lowered (drop-slice l at) ∙ lowered-drop at l
-
-pub alike_of : (a b : List ℕ) (t : Bool) → t ≡ same_octets (lowered a) (lowered b) → t ≡ same_name a b
-unfolding same_name
-alike_of a b t e = e
+pub alike-whole : (a b : List ℕ) → true ≡ same_octets a b → true ≡ same_octets (lowered a) (lowered b)
+alike-whole a b e = sym (same_octets-of (lowered a) (lowered b) (ap lowered (same_octets-true a b (sym e))))
 
 pub unlike-names : (a b : List ℕ) → (length a ≡ length b → ⊥) → false ≡ same_name a b
 unlike-names a b h = true-false (same_name a b) (λ e. h (same_name-length a b e))
 
 -- ---- the labels of a name passed, in search of a zone
 
-pub record Passed (zone name : List ℕ) (at : ℕ) : Type 0 where
-  pub rest : within zone name ≡ ends_in zone 0 (drop at name)
-
-pub passed_none : (zone name : List ℕ) → Passed zone name 0
-unfolding within
-passed_none zone name = record { rest = refl }
-
-module _ (zone name : List ℕ) (at : ℕ) (r : Passed zone name at) where
-  pub passed-end : length name ≤ at → false ≡ within zone name
+module _ (zone name : List ℕ) (at : ℕ) (r : within zone name ≡ ends_in zone 0 (drop at name)) where
+  pub passed_end : length name ≤ at → false ≡ within zone name
   unfolding ends_in
-  passed-end h = sym (r.rest ∙ ap (ends_in zone 0) (drop_of_length-le name h))
+  passed_end h = sym (r ∙ ap (ends_in zone 0) (drop_of_length-le name h))
 
-  next-label : at < length name → within zone name ≡ same_name zone (drop at name) || ends_in zone (get_or name at 0) (drop (suc at) name)
-  unfolding ends_in
-  next-label h =
-      r.rest ∙ ap (ends_in zone 0) (drop-cons name at 0 h)
-      ∙ ap (λ (l : List ℕ). same_name zone l || ends_in zone (get_or name at 0) (drop (suc at) name)) (sym (drop-cons name at 0 h))
+  module _ (b : ℕ) (h : at < length name) (q : b ≡ get_or name at 0) where
+    next-label : within zone name ≡ same_name zone (take (length name - at) (drop at name)) || ends_in zone b (drop (suc at) name)
+    unfolding ends_in
+    next-label =
+        let n : drop at name ≡ b ∷ drop (suc at) name = drop-cons name at 0 h ∙ ap (λ (c : ℕ). c ∷ drop (suc at) name) (sym q) in
+        r ∙ ap (ends_in zone 0) n ∙ ap (λ (l : List ℕ). same_name zone l || ends_in zone b (drop (suc at) name)) (sym n ∙ sym (drop-slice name at))
 
-  pub passed-found : at < length name → true ≡ same_name zone (take (length name - at) (drop at name)) → true ≡ within zone name
-  passed-found h e =
-      sym (next-label h ∙ ap (λ (t : Bool). t || ends_in zone (get_or name at 0) (drop (suc at) name)) (ap (same_name zone) (sym (drop-slice name at)) ∙ sym e))
+    pub passed-found : true ≡ same_name zone (take (length name - at) (drop at name)) → true ≡ within zone name
+    passed-found e = sym (next-label ∙ ap (λ (t : Bool). t || ends_in zone b (drop (suc at) name)) (sym e))
 
-  pub passed-label : at < length name → false ≡ same_name zone (take (length name - at) (drop at name)) → Passed zone name (at + (get_or name at 0 + 1))
-  passed-label h e =
-      let b : ℕ = get_or name at 0 in
-      let m : suc at + b ≡ at + (b + 1) = omega arith in
-      record {
-        rest = next-label h ∙ ap (λ (t : Bool). t || ends_in zone b (drop (suc at) name)) (ap (same_name zone) (sym (drop-slice name at)) ∙ sym e)
-            ∙ ends_in-drop zone b (drop (suc at) name) ∙ ap (ends_in zone 0) (drop-drop b (suc at) name ∙ ap (λ (j : ℕ). drop j name) m);
-      }
+    pub passed-label : false ≡ same_name zone (take (length name - at) (drop at name)) → within zone name ≡ ends_in zone 0 (drop (at + (b + 1)) name)
+    passed-label e =
+        let m : suc at + b ≡ at + (b + 1) = omega arith in
+        next-label ∙ ap (λ (t : Bool). t || ends_in zone b (drop (suc at) name)) (sym e)
+        ∙ ends_in-drop zone b (drop (suc at) name) ∙ ap (ends_in zone 0) (drop-drop b (suc at) name ∙ ap (λ (j : ℕ). drop j name) m)

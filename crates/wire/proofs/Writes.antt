@@ -1,18 +1,17 @@
 -- Laws of `sets`, a list with other octets from a place on: two writes in a row; what a write leaves as it was; what was
 -- written; a part that was lent and has come back.
-use Prim.Native.Nat.{ℕ, zero, suc, ◌+◌, ◌-◌, ◌/◌, ◌%◌, ◌^◌, ◌≤◌, ◌<◌}
+use Prim.Native.Nat.{ℕ, zero, suc, ◌+◌, ◌-◌, ◌^◌, ◌≤◌, ◌<◌}
 use mathlib.Core.Path.{◌≡◌, refl, sym, ap, ap₂, ◌∙◌}
 use mathlib.Core.Bool.{true}
 use mathlib.Core.List.{List, [], ◌∷◌, ◌++◌, append-nil}
 use native.Mathlib.Nat.{suc-add, add-suc, zero-add, add-zero, suc_inj}
-use native.Mathlib.Numerals.{add-one}
 use native.Mathlib.Omega.{arith}
 use lib.Pow.{are_bytes}
-use lib.ListN.{length, take, drop, get_or, set, length-take, length-drop, take-append-drop, drop_of_length-le}
-use lib.Seq.{sets, length-sets, set_comm, set_out, take-suc, take_all, drop-set-lt, length-take-le, take-append_seam}
+use lib.ListN.{length, take, drop, set, length-take, length-drop, take-append-drop, drop_of_length-le}
+use lib.Seq.{sets, length-sets, set_comm, set_out, take-length, take_all, drop-set-lt, length-take-le, take-append_seam}
 use Rattle.wire.specs.Field.{field, octets}
 use Rattle.wire.specs.Part.{part}
-use Rattle.wire.proofs.Fields.{are_bytes-append, are_bytes-drop, are_bytes-take, length-octets, octets-mod, octets-split, field-octets, field-take-le}
+use Rattle.wire.proofs.Fields.{are_bytes-append, are_bytes-drop, are_bytes-take, length-octets, field-octets, field-take-le}
 
 -- ---- writes in a row, past the end, one place further
 
@@ -180,25 +179,6 @@ sets-lent-rest o p vs at e =
     ∙ ap (λ (l : List ℕ). take at o ++ l) (append-nil (sets (drop at o) 0 vs))
     ∙ sets-lent-tail at o 0 vs ∙ ap (λ (k : ℕ). sets o k vs) (add-zero at)
 
--- ---- a number written in two halves
-
-pub sets-halves : (n m : ℕ) (o p q : List ℕ) (at x : ℕ) → p ≡ sets o at (octets n (x / 256 ^ m))
-    → q ≡ sets p (at + n) (octets m (x % 256 ^ m)) → q ≡ sets o at (octets (n + m) x)
-sets-halves n m o p q at x e f =
-    f ∙ ap₂ (λ (l r : List ℕ). sets l (at + n) r) e (octets-mod m x)
-    ∙ ap (λ (k : ℕ). sets (sets o at (octets n (x / 256 ^ m))) (at + k) (octets m x)) (sym (length-octets n (x / 256 ^ m)))
-    ∙ sym (ap (sets o at) (octets-split n m x) ∙ sets-append o at (octets n (x / 256 ^ m)) (octets m x))
-
--- ---- a loop that copies
-
-pub sets-step : (d s : List ℕ) (i : ℕ) → i < length s → set (sets d 0 (take i s)) i (get_or s i 0) ≡ sets d 0 (take (i + 1) s)
-sets-step d s i h =
-    let n : length (take i s) ≡ i = length-take-le i s (omega arith) in
-    sym (ap (λ (k : ℕ). sets d 0 (take k s)) (add-one i)
-    ∙ ap (λ (k : List ℕ). sets d 0 k) (take-suc s i 0 h)
-    ∙ sets-append d 0 (take i s) (get_or s i 0 ∷ [])
-    ∙ ap (λ (k : ℕ). set (sets d 0 (take i s)) k (get_or s i 0)) (zero-add (length (take i s)) ∙ n))
-
 -- What lies past the end of the memory is not written.
 pub sets-full : (d s : List ℕ) (i : ℕ) → i ≤ length s → length d ≤ i → sets d 0 (take i s) ≡ sets d 0 s
 sets-full d s i h k =
@@ -208,3 +188,14 @@ sets-full d s i h k =
     ∙ sets-append d 0 (take i s) (drop i s)
     ∙ ap (λ (r : ℕ). sets (sets d 0 (take i s)) r (drop i s)) z
     ∙ sets-out (sets d 0 (take i s)) i (drop i s) (omega (arith, length-sets d 0 (take i s))))
+
+-- A copy of all, and of what there is room for.
+pub copied_all : (d s p : List ℕ) → p ≡ s → length s ≤ length d → p ++ drop (length s) d ≡ sets d 0 s
+copied_all d s p e h =
+    ap (λ (l : List ℕ). l ++ drop (length s) d) e ∙ sym (sets-front (length s) d s (sym (length-take-le (length s) d h)))
+
+pub copied_room : (d s p : List ℕ) → p ≡ take (length d) s → length d ≤ length s → p ≡ sets d 0 s
+copied_room d s p e h =
+    let n : length (take (length d) s) ≡ length d = length-take-le (length d) s h in
+    e ∙ sym (append-nil (take (length d) s)) ∙ ap (λ (r : List ℕ). take (length d) s ++ r) (sym (drop_of_length-le d (omega arith)))
+    ∙ sym (sets-front (length d) d (take (length d) s) (n ∙ ap length (sym (take-length d)))) ∙ sets-full d s (length d) h (omega arith)

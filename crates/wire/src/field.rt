@@ -1,5 +1,5 @@
 // Fields of 16 and 32 bits, the most significant octet first. An octet past the end counts as 0; what does not fit is not written.
-ghost use Rattle.std.specs.Prelude.{◌≡◌, ℕ, ◌++◌, take, drop, replicate};
+ghost use Rattle.std.specs.Prelude.{◌≡◌, ℕ, drop, get_or};
 ghost use Rattle.std.proofs.lemmas.List.Edits.{sets};
 ghost use Rattle.wire.specs.Field.{field, octets};
 
@@ -25,7 +25,7 @@ impl Field for u16 {
 
     #[tactic(auto, using(crate::proofs::Fields::be_two))]
     fn from_octets(s: &[u8]) -> u16 {
-        u16::from_be_bytes(first(s))
+        u16::from_be_bytes([octet(s, 0), octet(s, 1)])
     }
 
     #[tactic(auto, using(crate::proofs::Fields::two_be))]
@@ -41,7 +41,7 @@ impl Field for u32 {
 
     #[tactic(auto, using(crate::proofs::Fields::be_four))]
     fn from_octets(s: &[u8]) -> u32 {
-        u32::from_be_bytes(first(s))
+        u32::from_be_bytes([octet(s, 0), octet(s, 1), octet(s, 2), octet(s, 3)])
     }
 
     #[tactic(auto, using(crate::proofs::Fields::four_be))]
@@ -50,22 +50,19 @@ impl Field for u32 {
     }
 }
 
-// The first N octets, each that is missing as 0.
-fn first<const N: usize>(s: &[u8]) -> [u8; N]
-    ensures { result ≡ take N (s.now ++ replicate N 0) }
+fn octet(s: &[u8], at: usize) -> u8
+    ensures { result ≡ get_or s.now at 0 }
 {
-    if let Some(whole) = s.first_chunk::<N>() {
-        return *whole;
-    }
-    let mut octets = [0; N];
-    octets[..s.len()].copy_from_slice(s);
-    octets
+    s.get(at).copied().unwrap_or(0)
 }
 
 pub fn read_field<T: Field>(s: &[u8], at: usize) -> T
     ensures { T.number result ≡ field T.size (drop at s.now) }
 {
-    T::from_octets(s.get(at..).unwrap_or(&[]))
+    if s.len() <= at {
+        return T::from_octets(&[]);
+    }
+    T::from_octets(&s[at..])
 }
 
 pub fn write_field<T: Field>(out: &mut [u8], at: usize, x: T)

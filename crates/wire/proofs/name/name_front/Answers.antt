@@ -1,24 +1,17 @@
 -- `wire::name::name_front` meets its contract. Assumes nothing.
+use borrow.Author.Rules.{rules}
 use native.Mathlib.Omega.{arith}
-use lib.ListN.{length-take}
-use Rattle.wire.specs.Name.{max_name}
-use Rattle.wire.proofs.Loops.{read_none, read_past, read-zero, read-over, read-label}
+use Rattle.wire.proofs.Loops.{name_length-of, read_end, read-zero, read-over, read-label}
 use Rattle.wire.proofs.name.name_front.Goals as goal
 
-pub loop-i-init : goal.loop-i-init
-loop-i-init c = search read_none
+pub returns-in-0 : goal.returns-in-0
+returns-in-0 c = name_length-of _ _ _ c.min.ensures (read-zero _ _ c.loop-n.invariant c.in-Some.n.now (omega (arith, c.in-Some.ensures.lookup)) (search rules) c.in-0.is)
 
-pub returns-then-i-ge255 : goal.returns-then-i-ge255
-returns-then-i-ge255 c = read_past _ _ c.loop-i.invariant (omega (arith, length-take max_name c.args.s.now))
+pub loop-n-preserved : goal.loop-n-preserved
+loop-n-preserved c = read-label _ _ c.loop-n.invariant c.from.result (omega (arith, c.in-Some.ensures.lookup)) (search rules) (λ e. omega arith) (omega arith)
 
-pub returns-then-n-eq0 : goal.returns-then-n-eq0
-returns-then-n-eq0 c = read-zero _ _ c.loop-i.invariant (omega arith) (omega arith) (omega arith)
-
-pub returns-then-n-gt63 : goal.returns-then-n-gt63
-returns-then-n-gt63 c = read-over _ _ c.loop-i.invariant (omega arith) (omega arith) (omega arith)
-
-pub loop-i-preserved : goal.loop-i-preserved
-loop-i-preserved c = read-label _ _ c.loop-i.invariant (omega arith) (omega arith) (λ e. omega arith) (omega arith)
+pub returns-in_default-n : goal.returns-in_default-n
+returns-in_default-n c = name_length-of _ _ _ c.min.ensures (read-over _ _ c.loop-n.invariant c.in-Some.n.now (omega (arith, c.in-Some.ensures.lookup)) (search rules) (omega arith))
 
 pub returns : goal.returns
-returns c = read_past _ _ c.loop-i.invariant (omega (arith, length-take max_name c.args.s.now))
+returns c = name_length-of _ _ _ c.min.ensures (read_end _ _ c.loop-n.invariant (omega (arith, c.in_default.ensures.lookup)))

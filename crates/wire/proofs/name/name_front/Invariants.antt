@@ -4,8 +4,8 @@ use lib.ListN.{length}
 use Rattle.wire.proofs.Loops.{Read}
 use Rattle.wire.proofs.name.name_front.Given as goal
 
-abbrev pub invariant-loop-i : goal.invariant-loop-i
-invariant-loop-i l = Read l.s l.i
+abbrev pub invariant-loop-n : goal.invariant-loop-n
+invariant-loop-n l = Read l.front l.i
 
-abbrev pub decreases-loop-i : goal.decreases-loop-i
-decreases-loop-i l = length l.s - l.i
+abbrev pub decreases-loop-n : goal.decreases-loop-n
+decreases-loop-n l = length l.front - l.i
