@@ -23,7 +23,7 @@ use Rattle.server.specs.Memory.{Memory, area_at, state_of}
 use Rattle.server.specs.Numbers.{vacancy, newcomer}
 use Rattle.server.specs.Changes.{change_answer, change_numbers, answer_by, numbers_by, decided_by}
 use Rattle.server.specs.Checks.{option_of, brought_of, refused_by}
-use Rattle.server.specs.Answers.{Gives, Serves, answer_of, refusing}
+use Rattle.server.specs.Answers.{Gives, answer_of, refusing}
 use Rattle.server.proofs.States.{state-put, slot-vacancy, slot-newcomer}
 use Rattle.server.proofs.Ticks.{state-ticked}
 
@@ -76,12 +76,6 @@ module _ (s : Server) (call : Call) (b : Brought) (e : brought_of b ≡ brought 
       → Gives s (decided_by s t d) m (lent call) (outcome (state_of s m) call)
   unfolding numbers_by answer_by
   gives-refusal x p t d q m = rw q (gives-refused x p (decided_by s t (Err x)) refl m)
-
--- ---- a decision
-
-pub serves-decided : (s : Server) (call : Call) (t : ℕ) (k : Result Change Refusal) (r : Outcome) → r ≡ decided_by s t k
-    → ((m : Memory) → Serves s m call (decided_by s t k) m []) → (m : Memory) → Serves s m call r m []
-serves-decided s call t k r e h m = rw e (h m)
 
 -- ---- open
 

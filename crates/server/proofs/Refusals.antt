@@ -1,17 +1,15 @@
 -- The shared checks: each answers in its turn.
-use Prim.Native.Nat.{ℕ, ◌≤◌, ◌<◌}
-use mathlib.Core.Bool.{Bool, true, false, not}
+use Prim.Native.Nat.{ℕ}
+use mathlib.Core.Bool.{Bool, false}
 use Rattle.std.specs.Prelude.{Option, Some, None, MatchOption}
 use mathlib.Core.Path.{◌≡◌, sym, ap₂, ◌∙◌}
-use borrow.Author.Tests.{le-leb, lt-leb}
-use Rattle.service.specs.State.{slot_at, max_sessions}
+use Rattle.service.specs.State.{slot_at}
 use Rattle.service.specs.Checks as Service
 use Rattle.service.specs.Checks.{is_short, is_free, is_absent, is_long, refusal_of, least_output, max_message}
-use Rattle.server.specs.declared.state.Session.{Session}
 use Rattle.server.specs.declared.state.Server.{Server}
 use Rattle.server.specs.Memory.{Memory, state_of}
-use Rattle.server.specs.Checks.{option_of, first_of, tested_of, missing}
-use Rattle.server.proofs.Vacancies.{free-past}
+use Rattle.server.specs.Checks.{option_of, first_of, tested_of}
+use Rattle.server.proofs.Vacancies.{free_past}
 
 -- ---- a number that a call has or has not
 
@@ -20,14 +18,7 @@ pub absent-by : (s : Server) (o : Option ℕ) (r : Bool) {P : ℕ → Type 0} �
     → ((i : ℕ) → P i → (m : Memory) → r ≡ is_free (slot_at (state_of s m) i))
     → (m : Memory) → r ≡ is_absent (state_of s m) (option_of o)
 absent-by s None r h k m = h
-absent-by s (Some i) r h k m = k i h m ∙ sym (free-past s m i)
-
--- By the session's own numbers.
-pub missing-past : (i : ℕ) (x : Session) → max_sessions ≤ i → true ≡ missing i x
-missing-past i x h = rw (le-leb max_sessions i h)
-
-pub missing-open : (i : ℕ) (x : Session) → i < max_sessions → not x.live ≡ missing i x
-missing-open i x h = rw (lt-leb max_sessions i h)
+absent-by s (Some i) r h k m = k i h m ∙ sym (free_past s m i)
 
 -- ---- the four in their order
 

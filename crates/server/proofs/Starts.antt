@@ -26,10 +26,10 @@ unfolding state_of session_at fresh_of fresh slot_of records_of blocks
 fresh-state zone octets m e = rw e
 
 module _ (zone before : List ℕ) (b : Bool) (n : b ≡ is_name zone) where
-  pub start-named : b ≡ true → length before ≡ max_name → (after : List ℕ) → after ≡ sets before 0 zone
+  pub start_named : b ≡ true → length before ≡ max_name → (after : List ℕ) → after ≡ sets before 0 zone
       → (s : Server) → s ≡ fresh_of (length zone) → Starts zone before after (Ok s)
   unfolding Call.start
-  start-named h l after e s f =
+  start_named h l after e s f =
       let named : is_name zone ≡ true = sym n ∙ h in
       let short : length zone ≤ max_name = name_length-max zone (length zone) (is_name-length zone named) in
       let kept : take (length zone) after ≡ zone = ap (take (length zone)) e ∙ take-written before zone (omega arith) in
@@ -38,8 +38,8 @@ module _ (zone before : List ℕ) (b : Bool) (n : b ≡ is_name zone) where
         octets = rw named e;
       }
 
-  pub start-unnamed : b ≡ false → Starts zone before before (Err NotAName)
+  pub start_unnamed : b ≡ false → Starts zone before before (Err NotAName)
   unfolding Call.start
-  start-unnamed h =
+  start_unnamed h =
       let unnamed : is_name zone ≡ false = sym n ∙ h in
       record { state = λ m. rw unnamed; octets = rw unnamed }

@@ -16,8 +16,8 @@ use Rattle.server.specs.Numbers.{session_at}
 use Rattle.server.specs.Checks.{option_of}
 use Rattle.server.proofs.States.{slot-at, slot-free}
 
-pub is-free-at : (s : Server) (i : ℕ) (x : Session) → x ≡ session_at i s → (m : Memory) → not x.live ≡ is_free (slot_at (state_of s m) i)
-is-free-at s i x e m =
+pub free_at : (s : Server) (i : ℕ) (x : Session) → x ≡ session_at i s → (m : Memory) → not x.live ≡ is_free (slot_at (state_of s m) i)
+free_at s i x e m =
     sym (ap is_free (slot-at s m i) ∙ slot-free (session_at i s) (area_at i m) ∙ ap (λ (y : Session). not y.live) (sym e))
 
 -- Above the last number every place is free.
@@ -25,13 +25,13 @@ or-true : (b : Bool) → b || true ≡ true
 or-true true = refl
 or-true false = refl
 
-pub free-past : (s : Server) (m : Memory) (i : ℕ) → leb max_sessions i || is_free (slot_at (state_of s m) i) ≡ is_free (slot_at (state_of s m) i)
+pub free_past : (s : Server) (m : Memory) (i : ℕ) → leb max_sessions i || is_free (slot_at (state_of s m) i) ≡ is_free (slot_at (state_of s m) i)
 unfolding state_of
-free-past s m zero = refl
-free-past s m (suc zero) = refl
-free-past s m (suc (suc zero)) = refl
-free-past s m (suc (suc (suc zero))) = refl
-free-past s m (suc (suc (suc (suc i)))) = or-true (leb max_sessions (suc (suc (suc (suc i)))))
+free_past s m zero = refl
+free_past s m (suc zero) = refl
+free_past s m (suc (suc zero)) = refl
+free_past s m (suc (suc (suc zero))) = refl
+free_past s m (suc (suc (suc (suc i)))) = or-true (leb max_sessions (suc (suc (suc (suc i)))))
 
 -- ---- the lowest free one
 

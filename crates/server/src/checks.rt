@@ -86,6 +86,7 @@ fn tested(latest: u64, absent: bool, b: Brought) -> Result<(), Refusal>
     )
 }
 
+#[tactic(auto, unfolding(service::specs::Checks::refusal_of, crate::specs::Checks::first_of, crate::specs::Memory::state_of))]
 pub fn check(server: Server, b: Brought) -> Result<(), Refusal>
     ensures { (m : Memory) → refused_by result ≡ refusal_of (state_of server m) (brought_of b) }
 {

@@ -7,6 +7,8 @@ use crate::answer::Answer;
 use service::Refusal;
 use zone::BatchFault;
 
+// Functions, and no From for u32: the numbers of three crates' types are one list of 01's, which stands in one place.
+
 // 01: answers 1 to 5 take the time, and 10 to 20 change nothing.
 pub const LAST_ACCEPTED: u32 = 5;
 

@@ -13,5 +13,5 @@ pub const LEAST_OUTPUT: u64 = SESSIONS * OUTPUT;
 pub fn output_at(i: u32) -> usize
     ensures { result ≡ i * output_size }
 {
-    ((i as u64) * OUTPUT) as usize
+    (u64::from(i) * OUTPUT) as usize
 }

@@ -8,6 +8,7 @@ ghost use Rattle.server.specs.Checks.{option_of};
 use crate::state::{SESSIONS, Server, session_at};
 
 // Whether no session is open at a number; above 3 there never is.
+#[tactic(auto, using(crate::proofs::Vacancies::free_at))]
 pub fn is_free(server: Server, i: u64) -> bool
     ensures { (m : Memory) → result ≡ is_free (slot_at (state_of server m) i) }
 {

@@ -15,9 +15,9 @@ pub type Name = [u8; MAX_NAME];
 pub fn start(zone: &[u8], octets: &mut Name) -> Result<Server, Refusal>
     ensures { Starts zone.now octets.old octets.new result }
 {
-    if is_name(zone) {
-        write_octets(octets, 0, zone);
-        return Ok(fresh(zone.len()));
+    if !is_name(zone) {
+        return Err(Refusal::NotAName);
     }
-    Err(Refusal::NotAName)
+    write_octets(octets, 0, zone);
+    Ok(fresh(zone.len()))
 }

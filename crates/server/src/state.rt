@@ -6,7 +6,8 @@ use session::Clocks;
 
 pub const SESSIONS: u64 = 4;
 
-// One session: whether it is open, its clocks, and how many subscriptions it has.
+// One session: whether it is open, its clocks, and how many subscriptions it has. No Option of the other two: any words of a
+// C host are a server (words/Words.server_of), and what a closed place's words hold is loaded and saved as it is (Words.Saved).
 #[derive(Clone, Copy)]
 pub struct Session {
     pub live: bool,
@@ -63,6 +64,7 @@ pub fn opened(t: u64) -> Session
 }
 
 // A server whose zone's name has so many octets: no session, no record, the clock at 0.
+#[tactic(auto, unfolding(crate::specs::Numbers::fresh_of))]
 pub fn fresh(zone: usize) -> Server
     ensures { result ≡ fresh_of zone }
 {
@@ -108,6 +110,7 @@ pub fn with_session(mut server: Server, i: u64, s: Session) -> Server
 }
 
 // With the time as the latest.
+#[tactic(auto, unfolding(crate::specs::Numbers::at_time))]
 pub fn at_time(mut server: Server, t: u64) -> Server
     ensures { result ≡ at_time t server }
 {

@@ -11,38 +11,22 @@ use mathlib.Core.Path.{◌≡◌, refl, sym, ap, subst, ◌∙◌}
 use borrow.Rule.Slice.PartMut.{put_mid}
 use borrow.Author.Count.{below_none, below_more}
 use native.Mathlib.Numerals.{add-one}
-use Rattle.std.specs.Prelude.{Result, Ok, Err}
 use lib.ListN.{length, get_or, set, take, drop, length-set}
 use lib.Seq.{sets, sets-eq, get_or-set_same, get_or-set_other}
 use lib.Dec.{eqb}
 use borrow.Author.Tests.{eqb-true, eqb-false, ne_eqb}
 use Rattle.wire.proofs.Writes.{sets-out}
 use Rattle.service.specs.State.{max_sessions}
-use Rattle.server.specs.declared.state.Session.{Session}
-use Rattle.server.specs.declared.state.Server.{Server}
+use Rattle.std.specs.Prelude.{Result, Ok, Err}
 use Rattle.service.specs.declared.refusal.Refusal.{Refusal}
 use Rattle.server.specs.declared.change.Change.{Change}
-use Rattle.server.specs.declared.change.Change.TheVariants.{Opens, Closes}
-use Rattle.server.specs.Numbers.{vacancy, newcomer, kept_of, session_at, four, put_session, at_time, swept_by}
 use Rattle.server.specs.Changes.{change_numbers, numbers_by}
+use Rattle.server.specs.declared.state.Session.{Session}
+use Rattle.server.specs.declared.state.Server.{Server}
+use Rattle.server.specs.Numbers.{vacancy, kept_of, session_at, four, put_session, at_time, swept_by}
 use Rattle.server.proofs.Ticks.{swept_to, swept_none, swept-all, swept-turn}
 use Rattle.server.proofs.States.{four-all, put-past}
-use Rattle.words.specs.Words.{
-  truth,
-  flag,
-  place_of,
-  session_in,
-  server_of,
-  session_words,
-  words_of,
-  Timed,
-  Stored,
-  session_saved,
-  SavedSession,
-  ended_at,
-  SavedDecision,
-  Saved,
-}
+use Rattle.words.specs.Words.{truth, flag, place_of, session_in, server_of, session_words, words_of, Timed, Stored, session_saved, SavedSession, ended_at, SavedDecision, Saved}
 
 truth-flag : (b : Bool) → truth (flag b) ≡ b
 truth-flag true = refl
@@ -294,16 +278,7 @@ module _ (t : ℕ) (f : List Bool) (w : List ℕ) where
         h.server
         ∙ ap (at_time t) (swept-all f (server_of w) (swept_to i f (server_of w)) i refl (omega arith) (server-four w))
 
--- ---- a change or a refusal
-
-module _ (w w' : List ℕ) (t : ℕ) (k : Change) where
-  pub opened-saved : (i : ℕ) → k ≡ Opens i → (x : Session) → x ≡ newcomer t → SavedSession t i x w w' → server_of w' ≡ change_numbers t k (server_of w)
-  unfolding change_numbers
-  opened-saved i e x f h = h.server ∙ rw (f, e)
-
-  pub closed-saved : (i : ℕ) → k ≡ Closes i → (x : Session) → x ≡ vacancy → SavedSession t i x w w' → server_of w' ≡ change_numbers t k (server_of w)
-  unfolding change_numbers
-  closed-saved i e x f h = h.server ∙ rw (f, e)
+-- ---- a decision
 
 module _ (w : List ℕ) (t : ℕ) (d : Result Change Refusal) where
   pub taken-saved : (k : Change) → d ≡ Ok k → (w' : List ℕ) → server_of w' ≡ change_numbers t k (server_of w) → SavedDecision t d w w'

@@ -14,7 +14,6 @@ pub const WORDS: usize = 28;
 // Four words of the server, then six of each session.
 pub type Words = [u64; WORDS];
 
-// A session's six words.
 type SessionWords = [u64; 6];
 
 // 32 bits of a word count.
@@ -59,6 +58,7 @@ pub fn load(words: &Words) -> Server
         zone: words[1] as usize,
         records: words[2] as usize,
         second: words[3] != 0,
+        // By their places: over a map of the four numbers it was not proved that each place lies within the words.
         sessions: [
             session_in(words, place_of(0)),
             session_in(words, place_of(1)),
@@ -72,10 +72,11 @@ pub fn load(words: &Words) -> Server
 fn session_at(words: &Words, i: u64) -> Session
     ensures { result ≡ session_at i (server_of words.now) }
 {
-    if SESSIONS <= i {
-        return vacant();
+    if i < SESSIONS {
+        session_in(words, place_of(i))
+    } else {
+        vacant()
     }
-    session_in(words, place_of(i))
 }
 
 // What a message of one session needs.
@@ -92,6 +93,7 @@ pub fn load_context(words: &Words, i: u64) -> Context
     }
 }
 
+// A session's six words.
 fn session_words(x: Session) -> SessionWords
     ensures words { result ≡ session_words x [] }
     ensures timed { Timed x }
@@ -127,34 +129,24 @@ pub fn save(words: &mut Words, server: Server)
     }
 }
 
-// Past the last session there are no words.
-fn replace_session(words: &mut [u64], t: u64, i: u64, x: Session)
-    requires { length words.old ≡ 28 }
-    ensures { SavedSession t i x words.old words.new }
-{
-    words[0] = t;
-    if SESSIONS <= i {
-        return;
-    }
-    store_session(words, place_of(i), x);
-}
-
-// The time and one session's words alone: what a message, an open or a close changes.
+// The time and one session's words alone: what a message, an open or a close changes. Past the last session there are no words.
 pub fn save_session(words: &mut Words, t: u64, i: u64, x: Session)
     ensures { SavedSession t i x words.old words.new }
 {
-    replace_session(words, t, i, x);
+    words[0] = t;
+    if i < SESSIONS {
+        store_session(words, place_of(i), x);
+    }
 }
 
 // The time, and a session's words where it is aborted: past the last session there are none to write.
 fn end_session(words: &mut Words, t: u64, ended: bool, i: u64)
     ensures { server_of words.new ≡ ended_at t ended i (server_of words.old) }
 {
-    let x = vacant();
     if ended {
-        save_session(words, t, i, x);
+        save_session(words, t, i, vacant());
     } else {
-        save_session(words, t, SESSIONS, x);
+        save_session(words, t, SESSIONS, vacant());
     }
 }
 
@@ -169,6 +161,7 @@ fn end_sessions(words: &mut Words, t: u64, flags: Flags)
 }
 
 // The words that a change at a time leaves.
+#[tactic(auto, unfolding(server::specs::Changes::change_numbers))]
 fn save_change(words: &mut Words, t: u64, change: Change)
     ensures { server_of words.new ≡ change_numbers t change (server_of words.old) }
 {

@@ -7,7 +7,7 @@ use Rattle.words.proofs.words.end_session.Goals as goal
 pub returns-then-ended : goal.returns-then-ended
 returns-then-ended c =
     let a = c.args in
-    c.save_session.ensures.server ∙ aborted a.t a.i _ (server_of a.words.now) a.ended c.vacant-x.ensures c.if-ended.true
+    c.save_session.ensures.server ∙ aborted a.t a.i _ (server_of a.words.now) a.ended c.vacant.ensures c.if-ended.true
 
 pub returns-else-ended : goal.returns-else-ended
 returns-else-ended c =
