@@ -110,7 +110,8 @@ impl<'a> Block<'a> {
         }
     }
 
-    // The numbers and the RDATA are looked at before the name.
+    // The numbers and the RDATA are looked at before the name. Inlined: a loop knows the block's length and has the key at hand.
+    #[inline(always)]
     #[tactic(auto, using(crate::proofs::Memory::same_key_turned))]
     pub fn has_key(self, key: RecordKey<'_>) -> bool
         ensures { result ≡ same_key (key_of (rec_of self.entry.octets.now)) (key_in key.entry) }
@@ -153,8 +154,7 @@ impl<'a> Store<'a> {
         }
     }
 
-    // Whether the record in a block has a key. Loops ask this: mostly a quick look at the RDATA says no, and it stays in the
-    // loop, where the key's parts are at hand.
+    // Whether the record in a block has a key. Loops ask this: mostly a quick look at the RDATA says no.
     #[inline(always)]
     #[tactic(auto, using(crate::proofs::Memory::key_apart))]
     pub(crate) fn has_key_at(self, i: usize, key: RecordKey<'_>) -> bool
