@@ -93,6 +93,7 @@ impl Draft<'_> {
         let at = self.count * BLOCK;
         let name = edit.key.name;
         let rdata = edit.key.rdata;
+        // Both fit an octet, as the check proves: `try_from` would bring a refusal that has no case here.
         let lengths = [name.len() as u8, rdata.len() as u8];
         wire::write_octets(self.area, at, &lengths);
         write_numbers(self.area, at, edit);
