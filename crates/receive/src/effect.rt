@@ -30,7 +30,8 @@ pub struct Received {
     pub effect: Effect,
 }
 
-// A session's numbers while a message is received: its clocks, and how many subscriptions it has.
+// A session's numbers while a message is received: its clocks, and how many subscriptions it has. The memory of the subscriptions and
+// the output are written, so they are lent beside them: each contract then says what it leaves in either.
 #[derive(Clone, Copy)]
 pub struct Numbers {
     pub clocks: Clocks,

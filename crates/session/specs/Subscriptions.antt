@@ -8,6 +8,7 @@ use Rattle.zone.specs.Match.{Subscription}
 abbrev pub max_subscriptions : ℕ
 max_subscriptions = 16
 
+-- Whether a subscription holds a message ID.
 abbrev pub holds_id : ℕ → Subscription → Bool
 holds_id id s = eqb s.id id
 

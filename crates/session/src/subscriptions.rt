@@ -152,7 +152,7 @@ impl<'a> Subscriptions<'a> {
     }
 }
 
-// ---- one more
+// ---- one more and fewer: functions on the memory, since it is written, and the count that goes with it is handed back
 
 fn write_numbers(area: &mut [u8], at: usize, id: u16, question: Question<'_>)
     requires { at + block_size ≤ length area.old }
@@ -191,8 +191,6 @@ pub fn append(area: &mut Area, count: usize, id: u16, question: Question<'_>) ->
     write_block(area, count * BLOCK, id, question);
     count + 1
 }
-
-// ---- fewer
 
 // Block i of n is gone: those behind it move down by one. How many are left. Out of line: the loop that looks for it stays small.
 #[inline(never)]
