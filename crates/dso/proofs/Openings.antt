@@ -8,10 +8,10 @@ use mathlib.Core.List.{List, [], ◌∷◌}
 use lib.ListN.{length, take, drop, length-drop}
 use lib.Seq.{length-take-le}
 use lib.Dec.{ltb, eqb}
-use Rattle.std.specs.Prelude.{Option, Some, None, Result, Ok, Err}
+use Rattle.std.specs.Prelude.{Option, Some, None, is_some, Result, Ok, Err}
 use Rattle.wire.specs.Field.{field}
 use Rattle.dso.specs.Header.{message_id, no_records, opcode, is_response}
-use Rattle.dso.specs.Tlv.{Tlv, also, tlvs, is_some, filled, tlv_place, TlvStep, tlv_at, placed, stepped, ReadsNext}
+use Rattle.dso.specs.Tlv.{Tlv, also, tlvs, filled, tlv_place, TlvStep, tlv_at, placed, stepped, ReadsNext}
 use Rattle.dso.specs.Judge.{Opening, Opening.settled, Opening.primary, bad_form, first_of, form_of, opening, by_type, judgment, is_keepalive, judged}
 use Rattle.std.specs.Result.{result_ok}
 use Rattle.std.specs.Bool.{then_some}

@@ -17,8 +17,8 @@ use Rattle.std.specs.List.{FoldsTo}
 use Rattle.std.specs.Option.{MatchOption}
 use Rattle.std.specs.Result.{is_ok}
 use Rattle.dso.specs.declared.reader.Reader.{Reader}
-use Rattle.std.specs.Prelude.{Option, Some, None, Result, Ok, Err}
-use Rattle.dso.specs.Tlv.{Tlv, tlv_front, also, tlvs_from, tlvs, is_some, filled, tlv_place, TlvStep, cut_short, tlv_at, placed, stepped, place_behind, ReadsNext}
+use Rattle.std.specs.Prelude.{Option, Some, None, is_some, Result, Ok, Err}
+use Rattle.dso.specs.Tlv.{Tlv, tlv_front, also, tlvs_from, tlvs, filled, tlv_place, TlvStep, cut_short, tlv_at, placed, stepped, place_behind, ReadsNext}
 use Rattle.dso.specs.declared.reader.CutShort.{CutShort}
 use Rattle.dso.specs.declared.reader.TlvPlace.{TlvPlace}
 

@@ -16,7 +16,8 @@ first_place None = None
 first_place (Some []) = None
 first_place (Some (t ∷ ts)) = Some (first_at t)
 
--- An opening as code holds it.
+-- An opening as code holds it. (The definitions of the judgment keep words of their own for its two outcomes, since they are
+-- read beside the rules.)
 abbrev pub start_of : Opening → Result TlvPlace Judgment
 start_of (settled j) = Err j
 start_of (primary t) = Ok (first_at t)

@@ -1,7 +1,7 @@
 -- TLVs (01: type 16 bits, length 16 bits, data; RFC 8490, 5.4.4).
 -- 5.4.4: "DSO-TYPE: A 16-bit unsigned integer, in network (big endian) byte order", "DSO-LENGTH: A 16-bit unsigned
 -- integer, in network (big endian) byte order, giving the size in bytes of the DSO-DATA."
-use Rattle.std.specs.Prelude.{ℕ, zero, suc, ◌+◌, ◌≡◌, Bool, true, false, cond, Option, Some, None, Result, Ok, Err, List, [], ◌∷◌, length, take, drop, ltb}
+use Rattle.std.specs.Prelude.{ℕ, zero, suc, ◌+◌, ◌≡◌, Bool, cond, Option, Some, None, is_some, Result, Ok, Err, List, [], ◌∷◌, length, take, drop, ltb}
 use Rattle.wire.specs.Field.{field}
 use Rattle.dso.specs.declared.reader.CutShort.{CutShort}
 use Rattle.dso.specs.declared.reader.Reader.{Reader}
@@ -29,10 +29,6 @@ tlvs_from (suc k) (b ∷ l) = tlvs_from k l
 
 unfoldable pub tlvs : List ℕ → Option (List Tlv)
 tlvs l = tlvs_from 0 l
-
-abbrev pub is_some : Option (List Tlv) → Bool
-is_some None = false
-is_some (Some ts) = true
 
 -- Whether TLVs end exactly at the end of a list.
 unfoldable pub filled : List ℕ → Bool
