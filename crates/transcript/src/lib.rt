@@ -6,5 +6,5 @@ mod note;
 mod own;
 mod response;
 
-pub use lines::{Output, Text, write_lines};
+pub use lines::{Output, Text, Told, write_lines};
 pub use response::write_response;

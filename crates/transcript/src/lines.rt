@@ -1,15 +1,29 @@
 // The lines that an answer writes.
 ghost use Rattle.std.specs.Prelude.{◌≤◌, ◌<◌, ◌≡◌, length};
-ghost use Rattle.service.specs.Checks.{least_output};
 ghost use Rattle.server.specs.Answers.{answer_of};
 ghost use Rattle.script.specs.Code.{Written};
-ghost use Rattle.transcript.specs.Lines.{tells_all, note_line, note_lines, lines_for_all, lines_of, text_room, Printed};
+ghost use Rattle.transcript.specs.Lines.{tells_all, note_line, note_lines, lines_for_all, lines_of, Printed};
 
 use crate::note::{Note, Notes, all_silent, noted};
 use crate::own::{SESSION_OUTPUT, write_for_one};
 use script::{OutputLine, Verb, write_line};
 use server::{Answer, answer_number};
 use table::part;
+
+// The sessions' outputs, as a call left them.
+pub type Output = [u8; 65536];
+
+// Room for the lines of any answer.
+pub type Text = [u8; 327880];
+
+// What is told of a line: its verb and its own session, if it has them, and its call's answer. (The outputs stand beside it: tried as
+// a field, they had no length that the proof of `write_for_all` knew.)
+#[derive(Clone, Copy)]
+pub struct Told {
+    pub verb: Option<Verb>,
+    pub own: Option<u64>,
+    pub answer: Answer,
+}
 
 // What is noted of session s, if anything is.
 #[tactic(auto, using(crate::proofs::Telling::noting), unfolding(crate::specs::Lines::note_line))]
@@ -59,21 +73,21 @@ fn write_notes(verb: Option<Verb>, notes: Notes, out: &[u8], text: &mut [u8]) ->
     next
 }
 
-fn write_for_all(verb: Option<Verb>, answer: Answer, out: &[u8], text: &mut [u8]) -> usize
-    requires { (length out.now ≤ least_output) × (text_room ≤ length text.old) }
-    ensures { Printed text.old (lines_for_all verb (answer_of answer) out.now) text.new result }
+fn write_for_all(told: Told, out: &Output, text: &mut Text) -> usize
+    ensures { Printed text.old (lines_for_all told.verb (answer_of told.answer) out.now)
+        text.new result }
 {
-    let notes = noted(answer);
+    let notes = noted(told.answer);
     if all_silent(&notes) {
         let line = OutputLine {
-            verb,
-            answer: answer_number(answer),
+            verb: told.verb,
+            answer: answer_number(told.answer),
             session: None,
             bytes: None,
         };
         return write_line(text, 0, line);
     }
-    write_notes(verb, notes, out, text)
+    write_notes(told.verb, notes, out, text)
 }
 
 #[tactic(auto, unfolding(crate::specs::Lines::tells_all))]
@@ -83,40 +97,15 @@ fn tells_all(verb: Option<Verb>) -> bool
     matches!(verb, Some(Verb::Batch | Verb::Tick))
 }
 
-#[tactic(auto, unfolding(crate::specs::Lines::lines_of))]
-fn write_either(
-    verb: Option<Verb>,
-    own: Option<u64>,
-    answer: Answer,
-    out: &[u8],
-    text: &mut [u8],
-) -> usize
-    requires { (length out.now ≤ least_output) × (text_room ≤ length text.old) }
-    ensures { Printed text.old (lines_of verb own (answer_of answer) out.now)
-        text.new result }
-{
-    if tells_all(verb) {
-        return write_for_all(verb, answer, out, text);
-    }
-    write_for_one(verb, own, answer, out, text)
-}
-
-// The sessions' outputs, as a call left them.
-pub type Output = [u8; 65536];
-
-// Room for the lines of any answer.
-pub type Text = [u8; 327880];
-
 // At the front of the text; how many octets they are.
-pub fn write_lines(
-    verb: Option<Verb>,
-    own: Option<u64>,
-    answer: Answer,
-    out: &Output,
-    text: &mut Text,
-) -> usize
-    ensures { Printed text.old (lines_of verb own (answer_of answer) out.now)
-        text.new result }
+#[tactic(auto, unfolding(crate::specs::Lines::lines_of))]
+pub fn write_lines(told: Told, out: &Output, text: &mut Text) -> usize
+    ensures { Printed text.old
+        (lines_of told.verb told.own (answer_of told.answer) out.now) text.new result }
 {
-    write_either(verb, own, answer, out, text)
+    if tells_all(told.verb) {
+        write_for_all(told, out, text)
+    } else {
+        write_for_one(told, out, text)
+    }
 }

@@ -1,10 +1,10 @@
 // The one line of open, close and msg: which session it names, and which bytes.
-ghost use Rattle.std.specs.Prelude.{◌≡◌, ◌≤◌, length, option_copied};
-ghost use Rattle.service.specs.Checks.{least_output};
+ghost use Rattle.std.specs.Prelude.{◌≡◌, option_copied};
 ghost use Rattle.server.specs.Answers.{answer_of};
-ghost use Rattle.transcript.specs.Lines.{session_named, counts_in, sent_to, bytes_for, line_for_one, text_room, Printed};
+ghost use Rattle.transcript.specs.Lines.{session_named, counts_in, sent_to, bytes_for, line_for_one, Printed};
 
-use script::{OutputLine, Verb, write_line};
+use crate::lines::{Output, Text, Told};
+use script::{OutputLine, write_line};
 use server::{Answer, Counts, SESSIONS, answer_number};
 use table::part;
 
@@ -44,22 +44,15 @@ fn bytes_for(own: Option<u64>, answer: Answer, out: &[u8]) -> Option<&[u8]>
     }
 }
 
-pub fn write_for_one(
-    verb: Option<Verb>,
-    own: Option<u64>,
-    answer: Answer,
-    out: &[u8],
-    text: &mut [u8],
-) -> usize
-    requires { (length out.now ≤ least_output) × (text_room ≤ length text.old) }
-    ensures { Printed text.old (line_for_one verb own (answer_of answer) out.now)
-        text.new result }
+pub fn write_for_one(told: Told, out: &Output, text: &mut Text) -> usize
+    ensures { Printed text.old
+        (line_for_one told.verb told.own (answer_of told.answer) out.now) text.new result }
 {
     let line = OutputLine {
-        verb,
-        answer: answer_number(answer),
-        session: named(own, answer),
-        bytes: bytes_for(own, answer, out),
+        verb: told.verb,
+        answer: answer_number(told.answer),
+        session: named(told.own, told.answer),
+        bytes: bytes_for(told.own, told.answer, out),
     };
     write_line(text, 0, line)
 }

@@ -5,7 +5,7 @@ ghost use Rattle.script.specs.Code.{command_line};
 ghost use Rattle.transcript.specs.Lines.{text_room, Printed};
 ghost use Rattle.transcript.specs.Responses.{verb_in, own_in, unread_line, lines_told};
 
-use crate::lines::{Output, Text, write_lines};
+use crate::lines::{Output, Text, Told, write_lines};
 use script::{Command, OutputLine, Verb, write_line};
 use server::Answer;
 
@@ -59,5 +59,10 @@ pub fn write_response(
     let Some(answer) = answered else {
         return write_unread(text);
     };
-    write_lines(verb_in(command), own_in(command), answer, out, text)
+    let told = Told {
+        verb: verb_in(command),
+        own: own_in(command),
+        answer,
+    };
+    write_lines(told, out, text)
 }
