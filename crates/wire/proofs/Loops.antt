@@ -160,8 +160,8 @@ module _ (x y : List ℕ) (i : ℕ) (r : Compared x y true i) where
       (same_octets-parts at x y ∙ ap (λ (u : Bool). f && u) (sym e))
       (e ∙ same_octets-parts (i - at) (drop at x) (drop at y) ∙ ap (λ (u : Bool). g && u) (ap₂ same_octets (d x) (d y) ∙ sym r.whole))
 
-pub unlike-length : (x y : List ℕ) → (length x ≡ length y → ⊥) → false ≡ same_octets x y
-unlike-length x y h = true-false (same_octets x y) (λ e. h (ap length (same_octets-true x y e)))
+pub unlike_length : (x y : List ℕ) → (length x ≡ length y → ⊥) → false ≡ same_octets x y
+unlike_length x y h = true-false (same_octets x y) (λ e. h (ap length (same_octets-true x y e)))
 
 -- ---- what octets are mapped to, side by side
 
@@ -195,8 +195,8 @@ module _ (f : ℕ → ℕ) (a b : List ℕ) where
       rest-mapped l = ap (map f) (drop-slice l at) ∙ sym (drop-map f at l)
 
 -- Octets as they stand.
-pub as-they-stand : (a b : List ℕ) (t : Bool) → t ≡ same_octets (map (λ (x : ℕ). x) a) (map (λ (x : ℕ). x) b) → t ≡ same_octets a b
-as-they-stand a b t e = e ∙ ap₂ same_octets (map-id a) (map-id b)
+pub as_they_stand : (a b : List ℕ) (t : Bool) → t ≡ same_octets (map (λ (x : ℕ). x) a) (map (λ (x : ℕ). x) b) → t ≡ same_octets a b
+as_they_stand a b t e = e ∙ ap₂ same_octets (map-id a) (map-id b)
 
 -- ---- two names side by side: their lowered octets are
 
@@ -221,8 +221,8 @@ unlike-caseless a b e = true-false (same_octets (lowered a) (lowered b)) (λ s. 
 pub alike-whole : (a b : List ℕ) → true ≡ same_octets a b → true ≡ same_octets (lowered a) (lowered b)
 alike-whole a b e = sym (same_octets-of (lowered a) (lowered b) (ap lowered (same_octets-true a b (sym e))))
 
-pub unlike-names : (a b : List ℕ) → (length a ≡ length b → ⊥) → false ≡ same_name a b
-unlike-names a b h = true-false (same_name a b) (λ e. h (same_name-length a b e))
+pub unlike_names : (a b : List ℕ) → (length a ≡ length b → ⊥) → false ≡ same_name a b
+unlike_names a b h = true-false (same_name a b) (λ e. h (same_name-length a b e))
 
 -- ---- the labels of a name passed, in search of a zone
 

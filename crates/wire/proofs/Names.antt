@@ -10,8 +10,6 @@ use native.Mathlib.Omega.{arith}
 use lib.ListN.{length, take, drop, get_or, length-take, length-drop, length-map}
 use lib.Seq.{take-take, take-length, take_all, take-append-add, drop-append_seam, length-take-le}
 use lib.Dec.{leb, eqb}
-use Rattle.std.specs.Char.{LowercasesTo}
-use mathlib.Core.Logic.{inl, inr}
 use borrow.Author.Tests.{leb-true, leb-false, eqb-true, eqb-false, le-leb, lt-leb, eq-eqb, ne_eqb}
 use Rattle.wire.specs.Name.{max_label, max_name, after, labels, name_length, holds, is_name, lower, lowered, same_octets, same_name, ends_in, within}
 use Rattle.wire.specs.Reading.{name_at}
@@ -182,12 +180,6 @@ lower-above b p = other (leb 65 b) (leb b 90) (lt-leb b 90 p)
     other : (s t : Bool) → t ≡ false → cond (s && t) (b + 32) b ≡ b
     other true t e = ap (λ (u : Bool). cond u (b + 32) b) e
     other false t e = refl
-
--- As std lowers an octet.
-pub lowercased : (b r : ℕ) → LowercasesTo b r → r ≡ lower b
-lowercased b r (inl (h, e)) = e ∙ sym (lower-letter b (omega arith) (omega arith))
-lowercased b r (inr (inl h, e)) = e ∙ sym (lower-below b (omega arith))
-lowercased b r (inr (inr h, e)) = e ∙ sym (lower-above b (omega arith))
 
 -- A fact of every lowered octet, from the three ranges.
 pub lower-cases : (P : ℕ → Type 0) (b : ℕ) → (b < 65 → P b) → (65 ≤ b → b ≤ 90 → P (b + 32)) → (90 < b → P b) → P (lower b)

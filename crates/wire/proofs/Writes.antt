@@ -25,6 +25,9 @@ sets-out l i [] h = refl
 sets-out l i (v ∷ vs) h =
     ap (λ (k : List ℕ). sets k (suc i) vs) (set_out l i v h) ∙ sets-out l (suc i) vs (omega arith)
 
+pub sets_past : (l : List ℕ) (i : ℕ) (vs : List ℕ) → length l ≤ i → l ≡ sets l i vs
+sets_past l i vs h = sym (sets-out l i vs h)
+
 pub sets-nil : (i : ℕ) (vs : List ℕ) → ◌≡◌ {A = List ℕ} (sets [] i vs) []
 sets-nil i vs = sets-out [] i vs (omega arith)
 
@@ -178,6 +181,9 @@ sets-lent-rest o p vs at e =
     (drop_of_length-le (drop at o) {i = length o - at} (omega (arith, length-drop at o)))
     ∙ ap (λ (l : List ℕ). take at o ++ l) (append-nil (sets (drop at o) 0 vs))
     ∙ sets-lent-tail at o 0 vs ∙ ap (λ (k : ℕ). sets o k vs) (add-zero at)
+
+-- What a write from a place on comes to.
+pub ruleset written_from = (sets-lent-rest, sets_past)
 
 -- What lies past the end of the memory is not written.
 pub sets-full : (d s : List ℕ) (i : ℕ) → i ≤ length s → length d ≤ i → sets d 0 (take i s) ≡ sets d 0 s

@@ -27,6 +27,7 @@ pub fn name_at(s: &[u8], at: usize) -> Option<usize>
     name_front(s.get(at..)?)
 }
 
+#[tactic(auto, unfolding(crate::specs::Name::lower))]
 fn lower(b: u8) -> u8
     ensures { result ≡ lower b }
 {
@@ -42,7 +43,6 @@ fn caseless(b: u8) -> u8
 }
 
 // By what `key` makes of each octet, without leaving early: octets of a count that the compiler knows are compared all at once.
-#[inline(always)]
 fn same_part<K: Fn(u8) -> u8>(a: &[u8], b: &[u8], key: K) -> bool
     requires { (length a.now ≡ length b.now) × K.IsAlwaysCallable key }
     ensures { (f : ℕ → ℕ) → Gives K.Fn key f → result ≡ same_octets (map f a.now) (map f b.now) }
@@ -68,7 +68,6 @@ struct Octets;
 impl Likeness for Octets {
     ghost seen = { λ x. x };
 
-    #[inline(always)]
     fn alike(a: &[u8], b: &[u8]) -> bool {
         same_part(a, b, |x| x)
     }
@@ -81,13 +80,13 @@ struct Letters;
 impl Likeness for Letters {
     ghost seen = { lower };
 
-    #[inline(always)]
     fn alike(a: &[u8], b: &[u8]) -> bool {
         same_part(a, b, |x| x) || same_part(a, b, caseless) && same_part(a, b, lower)
     }
 }
 
-// Part by part, leaving at the first that differs. The last part ends where the octets end, so it may overlap the one before it.
+// Part by part, leaving at the first that differs. The last part ends where the octets end, so it may overlap the one before it:
+// of `chunks` the last would be short, and not of a width that the compiler knows.
 fn by_parts<L: Likeness>(a: &[u8], b: &[u8], width: usize) -> bool
     requires { (length a.now ≡ length b.now) × (1 ≤ width) × (width ≤ length a.now) }
     ensures { result ≡ same_octets (map L.seen a.now) (map L.seen b.now) }
@@ -109,6 +108,7 @@ const PART: usize = 16;
 const SHORT: usize = 4;
 
 // Octets of unlike length are told apart without looking at them.
+#[tactic(auto, using(crate::proofs::Loops::as_they_stand, crate::proofs::Loops::unlike_length))]
 pub fn same_octets(a: &[u8], b: &[u8]) -> bool
     ensures { result ≡ same_octets a.now b.now }
 {
@@ -125,6 +125,7 @@ pub fn same_octets(a: &[u8], b: &[u8]) -> bool
 }
 
 // Names of unlike length likewise.
+#[tactic(auto, using(crate::proofs::Loops::unlike_names), unfolding(crate::specs::Name::same_name))]
 pub fn same_name(a: &[u8], b: &[u8]) -> bool
     ensures { result ≡ same_name a.now b.now }
 {

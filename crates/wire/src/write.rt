@@ -16,6 +16,7 @@ fn copy(dst: &mut [u8], src: &[u8])
 }
 
 // From a place on: the part that begins there is lent on.
+#[tactic(auto, using(crate::proofs::Writes::written_from))]
 pub fn write_octets(out: &mut [u8], at: usize, src: &[u8])
     ensures { out.new ≡ sets out.old at src.now }
 {

@@ -4,12 +4,12 @@ use Prim.Native.Nat.{ℕ}
 use mathlib.Core.Path.{sym, ◌∙◌}
 use Rattle.wire.specs.Case.{caseless}
 use Rattle.wire.specs.Name.{lower}
-use Rattle.wire.proofs.Loops.{alike-whole, as-they-stand, unlike-caseless}
+use Rattle.wire.proofs.Loops.{alike-whole, as_they_stand, unlike-caseless}
 use Rattle.wire.proofs.name.LettersLikeness.alike.Goals as goal
 
 pub returns-then-same_part : goal.returns-then-same_part
 returns-then-same_part c =
-    c.if-same_part.true ∙ alike-whole _ _ (sym c.if-same_part.true ∙ as-they-stand _ _ _ (c.same_part.ensures (λ (x : ℕ). x) (record { each = λ x y e. search rules })))
+    c.if-same_part.true ∙ alike-whole _ _ (sym c.if-same_part.true ∙ as_they_stand _ _ _ (c.same_part.ensures (λ (x : ℕ). x) (record { each = λ x y e. search rules })))
 
 pub returns-then-same_part-2 : goal.returns-then-same_part-2
 returns-then-same_part-2 c = c.same_part-then-same_part-2.ensures lower (record { each = λ x y e. search rules })
