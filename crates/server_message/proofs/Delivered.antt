@@ -7,13 +7,14 @@ use mathlib.Core.Option.{none, some}
 use mathlib.Core.Path.{◌≡◌, refl, sym, ap, subst, ◌∙◌}
 use lib.ListN.{length, take, drop, set, replicate}
 use lib.Seq.{sets}
-use lib.Dec.{eqb, leb, ltb}
+use lib.Dec.{leb, ltb}
 use lib.Pow.{are_bytes}
-use borrow.Author.Tests.{eqb-true, eqb-false, ne_eqb, lt-ltb, leb-false, ltb-false}
+use borrow.Author.Tests.{lt-ltb, leb-false, ltb-false}
 use Rattle.wire.specs.Part.{part}
 use Rattle.wire.proofs.Writes.{sets-lent-rest}
 use Rattle.session.specs.Table.{subscriptions_of}
 use Rattle.session.specs.declared.clocks.Clocks.{Clocks}
+use Rattle.zone.specs.Record.{Record}
 use Rattle.zone.specs.Table.{records_of}
 use Rattle.service.specs.State.{Slot, live, slot_at, max_sessions}
 use Rattle.service.specs.Answer.{sent}
@@ -32,17 +33,17 @@ use Rattle.receive.specs.declared.effect.Effect.TheVariants.{Abort, Nothing, Rep
 use Rattle.server.specs.declared.answer.Answer.TheVariants.{Refused}
 use Rattle.server.specs.declared.answer.Outcome.{Outcome}
 use Rattle.server.specs.declared.answer.Heard.{Heard}
-use Rattle.server.specs.declared.checks.Checked.{Checked}
-use Rattle.server.specs.declared.checks.Checked.TheVariants.{Pass, Refuse}
+use Rattle.std.specs.Prelude.{Some, Result, Ok, Err}
+use Rattle.server.specs.declared.checks.Brought.{Brought}
 use Rattle.server.specs.Checks.{refused_by, first_of, tested_of, missing, message_brought}
 use Rattle.server.proofs.Refusals.{tested-refusal}
 use Rattle.server.proofs.Outcomes.{gives-refused, gives-passed}
 use Rattle.server.specs.declared.state.Session.{Session}
 use Rattle.server.specs.declared.state.Server.{Server}
 use Rattle.server.specs.declared.state.Context.{Context}
-use Rattle.server.specs.Memory.{Memory, area_at, put_area, with_areas, memory_of, holding, session_of, state_of}
+use Rattle.server.specs.Memory.{Memory, area_at, put_area, holding, session_of, state_of}
 use Rattle.server.specs.Numbers.{vacancy, session_at, context_with, context_of, put_session, at_time}
-use Rattle.server.specs.Answers.{Gives, Serves, answer_of, counts_of, last_accepted, kept_by, heard_in, refusing}
+use Rattle.server.specs.Answers.{Gives, Serves, answer_of, last_accepted, kept_by, heard_in, refusing}
 use Rattle.server_message.specs.Delivery.{
   count_at,
   answer_to,
@@ -51,7 +52,6 @@ use Rattle.server_message.specs.Delivery.{
   declined_of,
   effect_in,
   DoesAt,
-  Numbered,
   Turns,
   Delivers,
   Has,
@@ -67,16 +67,6 @@ does_at at e r area o p d =
     record { means = d.means; written = sets-lent-rest o p (bytes_of e) at d.written; counted = d.counted }
 
 -- ---- what an effect concludes
-
-counts-at : (i n : ℕ) → counts_of (count_at i n) ≡ set (replicate max_sessions 0) i n
-unfolding count_at
-counts-at zero n = refl
-counts-at (suc zero) n = refl
-counts-at (suc (suc zero)) n = refl
-counts-at (suc (suc (suc zero))) n = refl
-counts-at (suc (suc (suc (suc i)))) n =
-    let k : ℕ = suc (suc (suc (suc i))) in
-    rw (ne_eqb k 0 (λ e. omega arith), ne_eqb k 1 (λ e. omega arith), ne_eqb k 2 (λ e. omega arith), ne_eqb k 3 (λ e. omega arith))
 
 module _ (s : Server) (t i : ℕ) (mem : Memory) (area o : List ℕ) (clocks : Clocks) (count : ℕ) where
   -- The session stays.
@@ -94,7 +84,7 @@ module _ (s : Server) (t i : ℕ) (mem : Memory) (area o : List ℕ) (clocks : C
       bytes_in f ≡ length (bytes_of (effect_is r area w))
       → Gives s (heard_in s t i (concluded_of i r)) (put_area i area mem) (sets o (i * output_size) (bytes_of (effect_is r area w)))
       (effect_outcome (state_of s mem) t i o (effect_is r area w))
-  unfolding effect_outcome answer_of answer_to gone_or kept_by answer_number
+  unfolding effect_outcome answer_of answer_to count_at gone_or kept_by answer_number
   concludes Abort w h =
       record {
         next =
@@ -114,7 +104,7 @@ module _ (s : Server) (t i : ℕ) (mem : Memory) (area o : List ℕ) (clocks : C
   concludes (Reply n) w h =
       record {
         next = stays;
-        answer = ap sent (counts-at i n ∙ ap (set (replicate max_sessions 0) i) h);
+        answer = ap (λ (k : ℕ). sent (set (replicate max_sessions 0) i k)) h;
         output = refl;
         unchanged = λ y p. absurd (let q : ◌≡◌ {A = ℕ} 0 1 = cc in omega arith);
       }
@@ -206,7 +196,7 @@ pub record Ready (c : Context) (i : ℕ) (o : List ℕ) : Type 0 where
   pub alive : c.session.live ≡ true
 
 -- What the checks say of a message, from its context.
-module _ (c : Context) (t i n : ℕ) (o : List ℕ) (k : Checked)
+module _ (c : Context) (t i n : ℕ) (o : List ℕ) (k : Result Unit Refusal)
     (h : refused_by k ≡ tested_of c.latest (missing i c.session) (message_brought t i (length o) n)) where
   -- The session is absent in every server that has the context, or in none.
   absent-in : (s : Server) → Has c i s → (mem : Memory) → missing i c.session ≡ is_absent (state_of s mem) (some i)
@@ -227,8 +217,8 @@ module _ (c : Context) (t i n : ℕ) (o : List ℕ) (k : Checked)
       (sym (ap (λ (x : Context). x.latest) e.numbers)) (missing i c.session) (absent-in s e mem)
 
   -- A message that passed has a session and room.
-  pub ready : k ≡ Pass → Ready c i o
-  ready e =
+  pub ready : (u : Unit) → k ≡ Ok u → Ready c i o
+  ready u e =
       let p = first-none (ltb (length o) least_output) (ltb t c.latest) (missing i c.session) (ltb max_message n) (sym h ∙ ap refused_by e) in
       let q = or-false (leb max_sessions i) (not c.session.live) p.1 in
       record {
@@ -239,34 +229,22 @@ module _ (c : Context) (t i n : ℕ) (o : List ℕ) (k : Checked)
 
 -- ---- the pieces of the code
 
-module _ (c : Context) (t i at : ℕ) (zone first second area area' m o p name : List ℕ) (r : Received) (which : Bool) (w : c.second ≡ which) where
-  pub attended : name ≡ part zone 0 c.zone → at ≡ i * output_size
-      → Does (message_effect name (records_of c.records (cond which second first)) t m (session_of c.session area)) r area'
-      (take (length o - at) (drop at o)) p
-      → DoesAt (i * output_size) (effect_in c t zone (cond c.second second first) m area) r area' o
-      (take at o ++ (p ++ drop (length o - at) (drop at o)))
-  attended f q d =
-      let k : Message.Effect = effect_in c t zone (cond c.second second first) m area in
-      let g : Does k r area' (take (length o - at) (drop at o)) p = rw (w, ← f) d in
-      subst (λ (n : ℕ). DoesAt n k r area' o (take at o ++ (p ++ drop (length o - at) (drop at o)))) q (does_at at k r area' o p g)
+pub attended : (c : Context) (t i at : ℕ) (zone store area area' m o p name : List ℕ) (records : List Record) (r : Received)
+    → name ≡ part zone 0 c.zone → records ≡ records_of c.records store → at ≡ i * output_size
+    → Does (message_effect name records t m (session_of c.session area)) r area' (take (length o - at) (drop at o)) p
+    → DoesAt (i * output_size) (effect_in c t zone store m area) r area' o (take at o ++ (p ++ drop (length o - at) (drop at o)))
+attended c t i at zone store area area' m o p name records r f g q d =
+    let k : Message.Effect = effect_in c t zone store m area in
+    let h : Does k r area' (take (length o - at) (drop at o)) p = rw (← f, ← g) d in
+    subst (λ (n : ℕ). DoesAt n k r area' o (take at o ++ (p ++ drop (length o - at) (drop at o)))) q (does_at at k r area' o p h)
 
-pub numbered : (i : ℕ) → Numbered (eqb i 0) (eqb i 1) (eqb i 2) i
-numbered i = record { zeroth = refl; first = refl; second = refl }
-
-pub number_is : {b : Bool} (i n : ℕ) → b ≡ eqb i n → b ≡ true → i ≡ n
-number_is i n e f = eqb-true i n (sym e ∙ f)
-
-pub number-not : {b : Bool} (i n : ℕ) → b ≡ eqb i n → b ≡ false → i ≡ n → ⊥
-number-not i n e f = eqb-false i n (sym e ∙ f)
-
-pub delivered : (c : Context) (t i j : ℕ) (zone store area area' m o o' a b d e a' b' d' e' : List ℕ) (h : Heard) → i ≡ j
-    → Turns c t i zone store area area' m o o' h → ((mem : Memory) → area_at j (with_areas a b d e mem) ≡ area)
-    → ((mem : Memory) → put_area j area' (with_areas a b d e mem) ≡ with_areas a' b' d' e' mem)
-    → Delivers c t i zone store m o o' a b d e a' b' d' e' h
-delivered c t i j zone store area area' m o o' a b d e a' b' d' e' h n u p q =
+pub delivered : {c : Context} {t i j : ℕ} {before after : Memory} {area area' m o o' : List ℕ} {h : Heard} → i ≡ j
+    → Turns c t i before.zone (cond c.second before.second before.first) area area' m o o' h → area_at j before ≡ area
+    → put_area j area' before ≡ after → Delivers c before after t i m o o' h
+delivered {before = before} n u p q =
     record {
-      gives = λ s mem x y z.
-          rw (← q mem, ← n) (u.gives s (with_areas a b d e mem) x y z (ap (λ (k : ℕ). area_at k (with_areas a b d e mem)) n ∙ p mem));
+      gives = λ s e.
+          rw (← q, ← n) (u.gives s before e refl (ap (λ (x : Context). cond x.second before.second before.first) e) (ap (λ (k : ℕ). area_at k before) n ∙ p));
       accepted = u.accepted;
     }
 
@@ -276,32 +254,33 @@ refusing-in : (s : Server) (t i : ℕ) (x : Session) (y : Refusal) → heard_in 
 unfolding kept_by answer_number answer_of
 refusing-in s t i x y = rw (lt-ltb last_accepted (refusal_number y) (refusal-above y))
 
-module _ (c : Context) (t i : ℕ) (zone first second m o a b d e : List ℕ) (small : are_bytes m ≡ true) (k : Checked)
+module _ (c : Context) (t i : ℕ) (before : Memory) (m o : List ℕ) (small : are_bytes m ≡ true) (k : Result Unit Refusal)
     (h : refused_by k ≡ tested_of c.latest (missing i c.session) (message_brought t i (length o) (length m))) where
-  pub heard-refused : (x : Refusal) → k ≡ Refuse x → (r : Heard) → r ≡ declined_of c.session x
-      → Hears c (memory_of zone first second a b d e) (memory_of zone first second a b d e) t i m o o r
+  brings : Brought
+  brings = record { output = Some (length o); time = t; session = Some i; message = Some (length m) }
+
+  pub heard-refused : (x : Refusal) → k ≡ Err x → (r : Heard) → r ≡ declined_of c.session x → Hears c before before t i m o o r
+  unfolding brings
   heard-refused x f r g =
       record {
         small = small;
         serves = λ y s w.
-            gives-refused s (receives t i (record { list = m; small = y }) o) k (checked-in c t i (length m) o k h s w) x f
-            (heard_in s t i r) (ap (heard_in s t i) g ∙ refusing-in s t i c.session x) (memory_of zone first second a b d e);
-        unchanged = λ y q. ap (λ (z : Heard). z.session) g;
+            gives-refused s (receives t i (record { list = m; small = y }) o) brings refl k (checked-in c t i (length m) o k h s w) x f
+            (heard_in s t i r) (ap (heard_in s t i) g ∙ refusing-in s t i c.session x) before;
+        unchanged = λ y p. ap (λ (z : Heard). z.session) g;
       }
 
-  pub heard-passed : k ≡ Pass → (r : Heard) (o' a' b' d' e' : List ℕ)
-      → Delivers c t i zone (cond c.second second first) m o o' a b d e a' b' d' e' r
-      → Hears c (memory_of zone first second a b d e) (memory_of zone first second a' b' d' e') t i m o o' r
-  unfolding passed
-  heard-passed f r o' a' b' d' e' u =
+  pub heard-passed : (u : Unit) → k ≡ Ok u → {r : Heard} {after : Memory} {o' : List ℕ} → Delivers c before after t i m o o' r
+      → Hears c before after t i m o o' r
+  unfolding passed brings
+  heard-passed u f {r} {after} {o'} d =
       record {
         small = small;
         serves = λ y s w.
-            let v : context_of i s ≡ c = ap (λ (x : Session). context_with x s) (w.session (ready c t i (length m) o k h f).known) ∙ w.numbers in
-            gives-passed s (receives t i (record { list = m; small = y }) o) k (checked-in c t i (length m) o k h s w) f (heard_in s t i r)
-            (memory_of zone first second a b d e) (memory_of zone first second a' b' d' e') o'
-            (u.gives s (memory_of zone first second a b d e) v refl (ap (λ (x : Context). cond x.second second first) v));
-        unchanged = λ x p. absurd (u.accepted x p);
+            let v : context_of i s ≡ c = ap (λ (x : Session). context_with x s) (w.session (ready c t i (length m) o k h u f).known) ∙ w.numbers in
+            gives-passed s (receives t i (record { list = m; small = y }) o) brings refl k (checked-in c t i (length m) o k h s w) u f
+            (heard_in s t i r) before after o' (d.gives s v);
+        unchanged = λ x p. absurd (d.accepted x p);
       }
 
 -- Every context is a server's: one with that session at every number.
@@ -312,10 +291,7 @@ alike c =
       zone = c.zone;
       records = c.records;
       second = c.second;
-      s0 = c.session;
-      s1 = c.session;
-      s2 = c.session;
-      s3 = c.session;
+      sessions = replicate max_sessions c.session;
     }
 
 pub some-has : (c : Context) (i : ℕ) → Has c i (alike c)

@@ -1,5 +1,5 @@
 -- What a received message makes of the server's numbers, memory and output.
-use Rattle.std.specs.Prelude.{ℕ, ◌<◌, Bool, true, cond, List, ◌≡◌, length, take, eqb}
+use Rattle.std.specs.Prelude.{ℕ, ◌<◌, true, List, ◌≡◌, length, take, set, replicate}
 use Rattle.std.proofs.lemmas.List.Edits.{sets}
 use Rattle.std.proofs.Math.Pow.{are_bytes}
 use Rattle.zone.specs.Table.{records_of}
@@ -13,19 +13,17 @@ use Rattle.receive.specs.declared.effect.Effect.{Effect}
 use Rattle.receive.specs.declared.effect.Effect.TheVariants.{Abort, Nothing, Reply, Others, Places}
 use Rattle.server.specs.declared.answer.Answer.{Answer}
 use Rattle.server.specs.declared.answer.Answer.TheVariants.{Done, Sent, NotOurs, Aborted, Reconfirm, Refused}
-use Rattle.server.specs.declared.answer.Counts.{Counts}
 use Rattle.server.specs.declared.answer.Heard.{Heard}
 use Rattle.server.specs.declared.state.Session.{Session}
 use Rattle.server.specs.declared.state.Server.{Server}
 use Rattle.server.specs.declared.state.Context.{Context}
-use Rattle.server.specs.Memory.{Memory, area_at, put_area, with_areas, holding, session_of, state_of}
+use Rattle.server.specs.Memory.{Memory, area_at, put_area, holding, session_of, state_of}
 use Rattle.server.specs.Numbers.{vacancy, session_at, context_with, context_of}
 use Rattle.server.specs.Answers.{Gives, Serves, heard_in}
 
 -- n bytes for session i, none for the others.
-unfoldable pub count_at : ℕ → ℕ → Counts
-count_at i n =
-    record { c0 = cond (eqb i 0) n 0; c1 = cond (eqb i 1) n 0; c2 = cond (eqb i 2) n 0; c3 = cond (eqb i 3) n 0 }
+unfoldable pub count_at : ℕ → ℕ → List ℕ
+count_at i n = set (replicate max_sessions 0) i n
 
 unfoldable pub answer_to : ℕ → Effect → Answer
 answer_to i Abort = Aborted
@@ -63,12 +61,6 @@ abbrev pub effect_in : Context → ℕ → List ℕ → List ℕ → List ℕ �
 effect_in c t zone store m area =
     Service.message_effect (take c.zone zone) (records_of c.records store) t m (session_of c.session area)
 
--- Three truths say which of the first three numbers i is.
-pub record Numbered (is0 is1 is2 : Bool) (i : ℕ) : Type 0 where
-  pub zeroth : is0 ≡ eqb i 0
-  pub first : is1 ≡ eqb i 1
-  pub second : is2 ≡ eqb i 2
-
 -- A message m on session i, whose area was `area` and is area' then; the output was o and is o' then. This holds of every
 -- server that has the context c.
 pub record Turns (c : Context) (t i : ℕ) (zone store area area' m o o' : List ℕ) (h : Heard) : Type 0 where
@@ -77,11 +69,9 @@ pub record Turns (c : Context) (t i : ℕ) (zone store area area' m o o' : List 
       → Gives s (heard_in s t i h) (put_area i area' mem) o' (message_outcome (state_of s mem) t i m o)
   pub accepted : (x : Refusal) → h.answer ≡ Refused x → ⊥
 
--- The same, with the areas of all sessions.
-pub record Delivers (c : Context) (t i : ℕ) (zone store m o o' a b d e a' b' d' e' : List ℕ) (h : Heard) : Type 0 where
-  pub gives : (s : Server) (mem : Memory) → context_of i s ≡ c → mem.zone ≡ zone → holding s mem ≡ store
-      → Gives s (heard_in s t i h) (with_areas a' b' d' e' mem) o'
-      (message_outcome (state_of s (with_areas a b d e mem)) t i m o)
+-- The same of the whole memory, as it was and as it is then.
+pub record Delivers (c : Context) (before after : Memory) (t i : ℕ) (m o o' : List ℕ) (h : Heard) : Type 0 where
+  pub gives : (s : Server) → context_of i s ≡ c → Gives s (heard_in s t i h) after o' (message_outcome (state_of s before) t i m o)
   pub accepted : (x : Refusal) → h.answer ≡ Refused x → ⊥
 
 -- The numbers s have the context c of session i. Past the last session there is none to have.

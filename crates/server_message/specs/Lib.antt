@@ -1,2 +1,3 @@
 -- What a received message makes of the server.
 pub mod Delivery
+pub mod Lent

@@ -2,5 +2,7 @@
 #![tactic(auto)]
 
 mod delivery;
+mod lent;
 
 pub use delivery::{hear, message};
+pub use lent::{Stores, Tables};

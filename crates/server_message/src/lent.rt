@@ -1,0 +1,41 @@
+// What is lent with a message.
+ghost use Rattle.std.specs.Prelude.{cond, ◌≡◌};
+ghost use Rattle.wire.specs.Part.{part};
+ghost use Rattle.zone.specs.Table.{records_of, records_in};
+
+use server::{Context, Name};
+
+// To be read alone: the zone's name, and two areas of which one holds the store.
+#[derive(Clone, Copy)]
+pub struct Stores<'a> {
+    pub name: &'a Name,
+    pub first: &'a zone::Area,
+    pub second: &'a zone::Area,
+}
+
+impl<'a> Stores<'a> {
+    // The zone by a server's numbers: the front of the name's octets, and as many records of the area that holds the store.
+    pub fn zone(self, c: Context) -> zone::Zone<'a>
+        ensures name { result.name.now ≡ part self.entry.name.now 0 c.zone }
+        ensures store { records_in result.store ≡ records_of c.records (cond c.second self.entry.second.now self.entry.first.now) }
+    {
+        let octets = self.name;
+        let area = if c.second { self.second } else { self.first };
+        zone::Zone {
+            name: table::part(octets, 0, c.zone),
+            store: zone::Store {
+                area,
+                count: c.records,
+            },
+        }
+    }
+}
+
+// Each session's subscriptions.
+#[derive(Drop)]
+pub struct Tables<'a> {
+    pub s0: &'a mut session::Area,
+    pub s1: &'a mut session::Area,
+    pub s2: &'a mut session::Area,
+    pub s3: &'a mut session::Area,
+}
