@@ -1,2 +1,2 @@
--- Laws of a batch.
+-- Lemmas of the batch.
 pub mod Pushed

@@ -1,11 +1,18 @@
 -- A batch: from what editing the store and writing the PUSHes ensure to the outcome of the call.
-use Prim.Native.Nat.{ℕ, ◌-◌, ◌≤◌}
+use Prim.Native.Nat.{ℕ, zero, suc, ◌+◌, ◌*◌, ◌-◌, ◌≤◌, ◌<◌}
 use native.Mathlib.Omega.{arith}
 use mathlib.Core.Bool.{Bool, true, false, cond, not, ◌&&◌}
 use mathlib.Core.List.{List, [], ◌∷◌, ◌++◌, map}
 use mathlib.Core.Option.{none, some}
 use mathlib.Core.Path.{◌≡◌, refl, sym, ap, ap₂, subst, ◌∙◌}
-use lib.ListN.{length, take, drop}
+use lib.ListN.{length, take, drop, set, get_or}
+use Rattle.std.proofs.lemmas.List.{take_more_set, map_more, take_all, get_or-map, length-set}
+use Rattle.std.specs.Borrow.{Bor}
+use Rattle.zone.specs.Table.{records_in}
+use Rattle.server.specs.Numbers.{session_at}
+use Rattle.server.proofs.States.{session-read}
+use Rattle.service.specs.Checks.{output_size}
+use Rattle.notify.specs.declared.message.Change.{Change}
 use lib.Seq.{sets}
 use lib.Dec.{eqb}
 use lib.Pow.{are_bytes}
@@ -19,9 +26,14 @@ use Rattle.zone.specs.Match.{Subscription}
 use Rattle.zone.specs.Table.{records_of}
 use Rattle.zone.specs.Batch.{batch_of, stored, faulty}
 use Rattle.zone.specs.Batches.{edited_of}
+use Rattle.std.specs.Prelude.{Some, Result, Ok, Err}
+use Rattle.server.specs.declared.checks.Brought.{Brought}
+use Rattle.server.specs.Checks.{brought_of, time_alone}
+use Rattle.server.proofs.Outcomes.{gives-refused}
+use Rattle.service.specs.Call.{Call}
+use Rattle.server.specs.Answers.{Serves}
+use Rattle.server_batch.specs.Pushing.{memory_lent}
 use Rattle.zone.specs.declared.BatchFault.{BatchFault}
-use Rattle.zone.specs.declared.editing.BatchResult.{BatchResult}
-use Rattle.zone.specs.declared.editing.BatchResult.TheVariants.{Stored, Faulty}
 use Rattle.push.specs.Octets.{push_of}
 use Rattle.notify.specs.Marks.{marked, changes_for}
 use Rattle.notify.specs.Written.{Pushed}
@@ -29,33 +41,31 @@ use Rattle.notify.proofs.Messages.{changes-for}
 use Rattle.service.specs.State.{State, Slot}
 use Rattle.service.specs.Answer.{done, sent, refused}
 use Rattle.service.specs.Checks.{refusal_of, least_output}
-use Rattle.service.specs.Call.{brought, passed, outcome, edits, refuse, with_store, push_to, told, written, batch_outcome}
+use Rattle.service.specs.Call.{passed, edits, refuse, with_store, push_to, told, written, batch_outcome}
 use Rattle.service.proofs.Checks.{checks-passed}
 use Rattle.service.specs.declared.refusal.Refusal.{Refusal}
 use Rattle.service.specs.declared.refusal.Refusal.TheVariants.{Batch}
 use Rattle.server.specs.declared.answer.Answer.{Answer}
-use Rattle.server.specs.declared.answer.Counts.{Counts}
 use Rattle.server.specs.declared.answer.Outcome.{Outcome}
-use Rattle.server.specs.declared.checks.Checked.{Checked}
-use Rattle.server.specs.declared.checks.Checked.TheVariants.{Pass}
 use Rattle.server.specs.declared.state.Session.{Session}
 use Rattle.server.specs.declared.state.Server.{Server}
-use Rattle.server.specs.Memory.{Memory, with_areas, memory_of, holding, slot_of, slots_of, state_of}
+use Rattle.server.specs.Memory.{Memory, memory_of, holding, slot_of, slots_of, state_of}
 use Rattle.server.specs.Checks.{refused_by}
-use Rattle.server.specs.Answers.{Gives, answer_of, counts_of, refusing}
-use Rattle.server_batch.specs.Pushing.{Tells, Changed, TellsAll, Announces, Edits, told_of, committed_of, put_other, slots_at}
+use Rattle.server.specs.Answers.{Gives, answer_of, refusing}
+use Rattle.server_batch.specs.Pushing.{Tells, Changed, TellsAll, Announces, Edits, told_of, committed_of, put_other, slots_at, areas_in}
 use Rattle.server.proofs.States.{slot-live, slot-dead}
 use Rattle.server.proofs.Outcomes.{gives-passed}
 
 -- ---- one session
 
-pub tell-live : (x : Session) (old new : List Record) (gone fresh subs o p : List ℕ) (at place n : ℕ) → x.live ≡ true → at ≡ place
-    → Changed old new gone fresh
-    → Pushed (take (length o - at) (drop at o)) (changes_for (subscriptions_of x.count subs) new (marked gone old) (marked fresh new)) p n
-    → Tells (push_to old new (slot_of x subs)) place o (take at o ++ (p ++ drop (length o - at) (drop at o))) n
-tell-live x old new gone fresh subs o p at place n h q m e =
+pub tell-live : (x : Session) (change : Change) (subs o p : List ℕ) (at place n : ℕ) → x.live ≡ true → at ≡ place → Changed change
+    → Pushed (take (length o - at) (drop at o)) (changes_for (subscriptions_of x.count subs) (records_in change.new) (marked change.gone.now (records_in change.old)) (marked change.fresh.now (records_in change.new))) p n
+    → Tells (push_to (records_in change.old) (records_in change.new) (slot_of x subs)) place o (take at o ++ (p ++ drop (length o - at) (drop at o))) n
+tell-live x change subs o p at place n h q m e =
+    let old : List Record = records_in change.old in
+    let new : List Record = records_in change.new in
     let l : List Subscription = subscriptions_of x.count subs in
-    let w : List ℕ = push_of (changes_for l new (marked gone old) (marked fresh new)) in
+    let w : List ℕ = push_of (changes_for l new (marked change.gone.now old) (marked change.fresh.now new)) in
     let same : w ≡ push_to old new (slot_of x subs) =
     ap push_of (ap₂ (changes_for l new) m.left m.entered ∙ changes-for l old new) ∙ sym (ap (push_to old new) (slot-live x subs h)) in
     record {
@@ -71,21 +81,65 @@ tell-dead x old new subs o at h =
 
 -- ---- all of them
 
-pub tells_all : (s : Server) (old new : List Record) (a b c d o o₁ o₂ o₃ o₄ : List ℕ) (n₀ n₁ n₂ n₃ : ℕ)
-    → Tells (push_to old new (slot_of s.s0 a)) 0 o o₁ n₀ → Tells (push_to old new (slot_of s.s1 b)) 16384 o₁ o₂ n₁
-    → Tells (push_to old new (slot_of s.s2 c)) 32768 o₂ o₃ n₂ → Tells (push_to old new (slot_of s.s3 d)) 49152 o₃ o₄ n₃
-    → TellsAll old new (slots_at s a b c d) o o₄ (record { c0 = n₀; c1 = n₁; c2 = n₂; c3 = n₃ })
+-- What the first i sessions are told: the output o is o' then, with what is left still to write, and so many counts ns stand.
+module _ (push : Slot → List ℕ) (s : Server) (l : List (List ℕ)) where
+  abbrev pushes : List (List ℕ)
+  pushes = map push (slots_at s l)
+
+  pub record Telling (i : ℕ) (o o' ns : List ℕ) : Type 0 where
+    pub long : length ns ≡ 4
+    pub left : written i (drop i pushes) o' ≡ written 0 pushes o
+    pub counted : take i ns ≡ map length (take i pushes)
+
+  abbrev push_at : ℕ → List ℕ
+  push_at i = push (slot_of (session_at i s) (get_or l i []))
+
+  pushed-at : (i : ℕ) → i < 4 → get_or pushes i [] ≡ push_at i
+  pushed-at zero h = refl
+  pushed-at (suc zero) h = refl
+  pushed-at (suc (suc zero)) h = refl
+  pushed-at (suc (suc (suc zero))) h = refl
+  pushed-at (suc (suc (suc (suc i)))) h = absurd (omega arith)
+
+  written_more : (i : ℕ) → i < 4 → (o p : List ℕ) → p ≡ sets o (i * output_size) (push_at i)
+      → written (i + 1) (drop (i + 1) pushes) p ≡ written i (drop i pushes) o
+  unfolding written
+  written_more zero h o p e = rw e
+  written_more (suc zero) h o p e = rw e
+  written_more (suc (suc zero)) h o p e = rw e
+  written_more (suc (suc (suc zero))) h o p e = rw e
+  written_more (suc (suc (suc (suc i)))) h o p e = absurd (omega arith)
+
+  telling_next : (i : ℕ) → i < 4 → (o o' ns : List ℕ) → Telling i o o' ns → (p : List ℕ) (n : ℕ) → Tells (push_at i) (i * output_size) o' p n
+      → Telling (i + 1) o p (set ns i n)
+  telling_next i h o o' ns w p n t =
+      record {
+        long = length-set ns i n ∙ w.long;
+        left = written_more i h o' p t.written ∙ w.left;
+        counted =
+            take_more_set ns i n (omega (arith, w.long))
+            ∙ rw (w.counted, t.counted, ← pushed-at i h) (sym (map_more length pushes i [] h));
+      }
+
+  pub telling_none : (o : List ℕ) → Telling 0 o o (0 ∷ 0 ∷ 0 ∷ 0 ∷ [])
+  telling_none o = record { long = refl; left = refl; counted = refl }
+
+-- As the code reads the arrays, at defaults of its own.
+pub telling_more : {push : Slot → List ℕ} {s : Server} (ts : List (Bor (List ℕ))) → length s.sessions ≡ 4 → length ts ≡ 4
+    → {i : ℕ} → i < 4 → {o o' ns : List ℕ} → Telling push s (areas_in ts) i o o' ns → (d : Session) (r : Bor (List ℕ)) {p : List ℕ} {n : ℕ}
+    → Tells (push (slot_of (get_or s.sessions i d) (get_or ts i r).now)) (i * output_size) o' p n
+    → Telling push s (areas_in ts) (i + 1) o p (set ns i n)
+telling_more {push} {s} ts h k {i} b {o} {o'} {ns} w d r {p} {n} t =
+    telling_next push s (areas_in ts) i b o o' ns w p n
+    (rw (← session-read i d s h b, get_or-map (λ (x : Bor (List ℕ)). x.now) ts i r [] (omega (arith, k))) t)
+
+pub telling_all : {old new : List Record} {s : Server} {l : List (List ℕ)} {i : ℕ} {o o' ns : List ℕ}
+    → Telling (push_to old new) s l i o o' ns → 4 ≤ i → i ≤ 4 → TellsAll old new (slots_at s l) o o' ns
 unfolding written
-tells_all s old new a b c d o o₁ o₂ o₃ o₄ n₀ n₁ n₂ n₃ p q r w =
-    record {
-      output =
-          w.written
-          ∙ ap (λ (z : List ℕ). sets z 49152 (push_to old new (slot_of s.s3 d)))
-          (r.written
-          ∙ ap (λ (z : List ℕ). sets z 32768 (push_to old new (slot_of s.s2 c)))
-          (q.written ∙ ap (λ (z : List ℕ). sets z 16384 (push_to old new (slot_of s.s1 b))) p.written));
-      counted = rw (p.counted, q.counted, r.counted, w.counted);
-    }
+telling_all {old} {new} {s} {l} {i} {o} {o'} {ns} w h k =
+    let e : i ≡ 4 = omega arith in
+    let v : Telling (push_to old new) s l 4 o o' ns = rw (← e) w in
+    record { output = v.left; counted = sym (take_all 4 ns (omega (arith, v.long))) ∙ v.counted }
 
 -- ---- 1 or 2
 
@@ -104,8 +158,8 @@ told-refuses-not ws x e = by (all_of (λ (w : List ℕ). eqb (length w) 0) ws) e
     by true e = let z : ◌≡◌ {A = ℕ} 0 1 = cc in omega arith
     by false e = let z : ◌≡◌ {A = ℕ} 0 1 = cc in omega arith
 
-pub announces : (s : Server) (t n : ℕ) (old new : List Record) (slots : List Slot) (o o' : List ℕ) (counts : Counts)
-    → TellsAll old new slots o o' counts → (z : Server) → z ≡ committed_of t n s → (x : Answer) → answer_of x ≡ told_of (counts_of counts)
+pub announces : (s : Server) (t n : ℕ) (old new : List Record) (slots : List Slot) (o o' counts : List ℕ)
+    → TellsAll old new slots o o' counts → (z : Server) → z ≡ committed_of t n s → (x : Answer) → answer_of x ≡ told_of counts
     → Announces s t n old new slots o o' (record { server = z; answer = x })
 announces s t n old new slots o o' counts w z p x q =
     record {
@@ -130,7 +184,7 @@ state-other s a m = rw (held-still s.second m.second m.first a)
 
 state-committed : (s : Server) (t n : ℕ) (a : List ℕ) (m : Memory)
     → state_of (committed_of t n s) (put_other s a m) ≡ with_store t (records_of n a) (state_of s m)
-unfolding state_of put_other committed_of
+unfolding state_of put_other committed_of session_at
 state-committed s t n a m = rw (held-other s.second m.second m.first a)
 
 -- ---- edits
@@ -169,64 +223,70 @@ announced-gives s t n o o' r new m v =
           (sym (ap answer_of e) ∙ v.answer));
     }
 
-module _ (s : Server) (t : ℕ) (zone old new a b c d bytes o name : List ℕ) (x : BatchResult) (named : name ≡ part zone 0 s.zone) (e : edited_of x new ≡ batch_of name bytes (records_of s.records old)) where
-  edited-at : (m : Memory) → m.zone ≡ zone → holding s m ≡ old
-      → batch_of (state_of s (with_areas a b c d m)).zone bytes (state_of s (with_areas a b c d m)).store ≡ edited_of x new
+module _ (s : Server) (t : ℕ) (zone old new : List ℕ) (l : List (List ℕ)) (bytes o name : List ℕ) (x : Result ℕ BatchFault) (named : name ≡ part zone 0 s.zone) (e : edited_of x new ≡ batch_of name bytes (records_of s.records old)) where
+  edited-at : (first second : List ℕ) → let m = memory_lent zone first second l in holding s m ≡ old
+      → batch_of (state_of s m).zone bytes (state_of s m).store ≡ edited_of x new
   unfolding state_of
-  edited-at m p q =
-      ap (λ (z : List ℕ). batch_of (take s.zone z) bytes (records_of s.records (holding s m))) p
-      ∙ ap (λ (z : List ℕ). batch_of (take s.zone zone) bytes (records_of s.records z)) q
+  edited-at first second q =
+      ap (λ (z : List ℕ). batch_of (take s.zone zone) bytes (records_of s.records z)) q
       ∙ sym (e ∙ ap (λ (z : List ℕ). batch_of z bytes (records_of s.records old)) named)
 
-  pub edits-faulty : (f : BatchFault) → x ≡ Faulty f → (r : Outcome) → r ≡ refusing s (Batch f)
-      → Edits s t zone old new a b c d bytes o o r
+  pub edits-faulty : (f : BatchFault) → x ≡ Err f → (r : Outcome) → r ≡ refusing s (Batch f) → Edits s t zone old new l bytes o o r
   unfolding answer_of
   edits-faulty f h r g =
       record {
-        gives = λ m p q.
-            rw (batch-faulty (state_of s (with_areas a b c d m)) t bytes o f (edited-at m p q ∙ ap (λ (y : BatchResult). edited_of y new) h), g)
-            (record { next = state-other s new (with_areas a b c d m); answer = refl; output = refl; unchanged = λ y w. refl });
+        gives = λ first second q.
+            let m = memory_lent zone first second l in
+            rw (batch-faulty (state_of s m) t bytes o f (edited-at first second q ∙ ap (λ (y : Result ℕ BatchFault). edited_of y new) h), g)
+            (record { next = state-other s new m; answer = refl; output = refl; unchanged = λ y w. refl });
       }
 
-  pub edits-stored : (n : ℕ) → x ≡ Stored n → (r : Outcome) (o' : List ℕ)
-      → Announces s t n (records_of s.records old) (records_of n new) (slots_at s a b c d) o o' r
-      → Edits s t zone old new a b c d bytes o o' r
+  pub edits-stored : (n : ℕ) → x ≡ Ok n → (r : Outcome) (o' : List ℕ)
+      → Announces s t n (records_of s.records old) (records_of n new) (slots_at s l) o o' r
+      → Edits s t zone old new l bytes o o' r
   edits-stored n h r o' w =
       record {
-        gives = λ m p q.
-            rw (batch-stored (state_of s (with_areas a b c d m)) t bytes o (records_of n new) (edited-at m p q ∙ ap (λ (y : BatchResult). edited_of y new) h))
-            (given m (subst (λ (l : List ℕ). Announces s t n (records_of s.records l) (records_of n new) (slots_at s a b c d) o o' r) (sym q) w));
+        gives = λ first second q.
+            let m = memory_lent zone first second l in
+            rw (batch-stored (state_of s m) t bytes o (records_of n new) (edited-at first second q ∙ ap (λ (y : Result ℕ BatchFault). edited_of y new) h))
+            (announced-gives s t n o o' r new m (subst (λ (z : List ℕ). Announces s t n (records_of s.records z) (records_of n new) (slots_at s l) o o' r) (sym q) w));
       }
-    where
-      given : (m : Memory) → Announces s t n (records_of s.records (holding s m)) (records_of n new) (slots_at s a b c d) o o' r
-          → Gives s r (put_other s new (with_areas a b c d m)) o'
-          (record {
-            answer = told (map (push_to (state_of s (with_areas a b c d m)).store (records_of n new)) (state_of s (with_areas a b c d m)).slots);
-            next = with_store t (records_of n new) (state_of s (with_areas a b c d m));
-            output =
-                written 0 (map (push_to (state_of s (with_areas a b c d m)).store (records_of n new)) (state_of s (with_areas a b c d m)).slots) o;
-          })
-      given m v = announced-gives s t n o o' r new (with_areas a b c d m) v
 
 -- ---- the call
 
-pub roomy : (s : Server) (t : ℕ) (o : List ℕ) (k : Checked)
-    → ((m : Memory) → refused_by k ≡ refusal_of (state_of s m) (record { output = some (length o); time = t; session = none; message = none }))
-    → k ≡ Pass → least_output ≤ length o
-roomy s t o k h e =
-    let m : Memory = memory_of [] [] [] [] [] [] [] in
-    ltb-false (length o) least_output
-    (checks-passed (state_of s m) (record { output = some (length o); time = t; session = none; message = none }) (sym (h m) ∙ ap refused_by e)).roomy
+-- What a batch brings to the checks: the time, and the length of its output.
+module _ (s : Server) (t : ℕ) (o : List ℕ) (k : Result Unit Refusal) (b : Brought) (q : b ≡ time_alone t)
+    (h : (m : Memory) → refused_by k ≡ refusal_of (state_of s m) (brought_of (record b { output = Some (length o) }))) where
+  brings : Brought
+  brings = record b { output = Some (length o) }
 
-pub edited-batch : (s : Server) (t : ℕ) (zone first second new a b c d bytes o o' : List ℕ) (small : are_bytes bytes ≡ true) (k : Checked)
-    → ((m : Memory) → refused_by k ≡ refusal_of (state_of s m) (brought (edits t (record { list = bytes; small = small }) o)))
-    → k ≡ Pass → (which : Bool) → s.second ≡ which → (r : Outcome)
-    → Edits s t zone (cond which second first) new a b c d bytes o o' r
-    → Gives s r (memory_of zone (cond which new first) (cond which second new) a b c d) o'
-    (outcome (state_of s (memory_of zone first second a b c d)) (edits t (record { list = bytes; small = small }) o))
-unfolding passed put_other
-edited-batch s t zone first second new a b c d bytes o o' small k h e which w r v =
-    gives-passed s (edits t (record { list = bytes; small = small }) o) k h e r (memory_of zone first second a b c d)
-    (memory_of zone (cond which new first) (cond which second new) a b c d) o'
-    (subst (λ (y : Bool). Gives s r (memory_of zone (cond y new first) (cond y second new) a b c d) o' (batch_outcome (state_of s (memory_of zone first second a b c d)) t bytes o)) w
-    (v.gives (memory_of zone first second a b c d) refl (ap (λ (y : Bool). cond y second first) w)))
+  brings-is : brought_of brings ≡ record { output = some (length o); time = t; session = none; message = none }
+  unfolding brings
+  brings-is = ap (λ (x : Brought). brought_of (record x { output = Some (length o) })) q
+
+  pub roomy : (u : Unit) → k ≡ Ok u → least_output ≤ length o
+  unfolding brings
+  roomy u e =
+      let m : Memory = memory_of [] [] [] [] [] [] [] in
+      ltb-false (length o) least_output
+      (checks-passed (state_of s m) (record { output = some (length o); time = t; session = none; message = none })
+      (ap (refusal_of (state_of s m)) (sym brings-is) ∙ sym (h m) ∙ ap refused_by e)).roomy
+
+  module _ (zone first second : List ℕ) (l : List (List ℕ)) (bytes : List ℕ) (small : are_bytes bytes ≡ true) where
+    call : Call
+    call = edits t (record { list = bytes; small = small }) o
+
+    pub refused-batch : (x : Refusal) → k ≡ Err x → (r : Outcome) → r ≡ refusing s x
+        → Serves s (memory_lent zone first second l) (edits t (record { list = bytes; small = small }) o) r (memory_lent zone first second l) o
+    unfolding call brings
+    refused-batch x e r f = gives-refused s call brings brings-is k h x e r f (memory_lent zone first second l)
+
+    pub edited-batch : (u : Unit) → k ≡ Ok u → (which : Bool) → s.second ≡ which → (r : Outcome) (new o' : List ℕ)
+        → Edits s t zone (cond which second first) new l bytes o o' r
+        → Serves s (memory_lent zone first second l) (edits t (record { list = bytes; small = small }) o) r
+        (memory_lent zone (cond which new first) (cond which second new) l) o'
+    unfolding call brings passed put_other
+    edited-batch u e which w r new o' v =
+        gives-passed s call brings brings-is k h u e r (memory_lent zone first second l) (memory_lent zone (cond which new first) (cond which second new) l) o'
+        (subst (λ (y : Bool). Gives s r (memory_lent zone (cond y new first) (cond y second new) l) o' (batch_outcome (state_of s (memory_lent zone first second l)) t bytes o)) w
+        (v.gives first second (ap (λ (y : Bool). cond y second first) w)))

@@ -1,37 +1,54 @@
 -- What a batch makes of the server's numbers, memory and output.
-use Rattle.std.specs.Prelude.{ℕ, cond, not, List, [], ◌∷◌, map, ◌≡◌, length, eqb}
+use Rattle.std.specs.Prelude.{Result, Ok, Err, get_or, ℕ, cond, not, List, [], ◌∷◌, map, ◌≡◌, length, eqb}
 use Rattle.std.proofs.lemmas.List.Edits.{sets}
 use Rattle.zone.specs.Lists.{all_of}
 use Rattle.zone.specs.Record.{Record}
 use Rattle.push.specs.List.{leaving, entering}
+use Rattle.std.specs.Borrow.{Bor}
+use Rattle.zone.specs.Table.{records_in}
+use Rattle.server.specs.Numbers.{session_at}
+use Rattle.notify.specs.declared.message.Change.{Change}
 use Rattle.notify.specs.Marks.{marked}
 use Rattle.service.specs.State.{Slot}
 use Rattle.service.specs.Answer.{done, sent}
 use Rattle.service.specs.Answer as Service
 use Rattle.service.specs.Call.{push_to, told, written, batch_outcome}
-use Rattle.server.specs.declared.answer.Counts.{Counts}
+use Rattle.service.specs.declared.refusal.Refusal.{Refusal}
 use Rattle.server.specs.declared.answer.Outcome.{Outcome}
 use Rattle.server.specs.declared.state.Server.{Server}
-use Rattle.server.specs.Memory.{Memory, with_areas, holding, slot_of, state_of}
-use Rattle.server.specs.Answers.{Gives, answer_of, counts_of}
+use Rattle.server.specs.Memory.{Memory, memory_of, holding, slot_of, state_of}
+use Rattle.server.specs.Answers.{Gives, answer_of, refusing}
 
 -- Bytes written from a place of the output on, and how many they are.
 pub record Tells (w : List ℕ) (at : ℕ) (o o' : List ℕ) (n : ℕ) : Type 0 where
   pub written : o' ≡ sets o at w
   pub counted : n ≡ length w
 
--- Marks of what a batch changes: the records that leave the store, and those that are fresh in it.
-pub record Changed (old new : List Record) (gone fresh : List ℕ) : Type 0 where
-  pub left : marked gone old ≡ leaving old new
-  pub entered : marked fresh new ≡ entering old new
+-- The marks tell what a batch changes: the records that leave the store, and those that are fresh in it.
+pub record Changed (c : Change) : Type 0 where
+  pub left : marked c.gone.now (records_in c.old) ≡ leaving (records_in c.old) (records_in c.new)
+  pub entered : marked c.fresh.now (records_in c.new) ≡ entering (records_in c.old) (records_in c.new)
 
-abbrev pub slots_at : Server → List ℕ → List ℕ → List ℕ → List ℕ → List Slot
-slots_at s a b c d = slot_of s.s0 a ∷ slot_of s.s1 b ∷ slot_of s.s2 c ∷ slot_of s.s3 d ∷ []
+abbrev pub areas_in : List (Bor (List ℕ)) → List (List ℕ)
+areas_in l = map (λ r. r.now) l
+
+-- The memory that is lent, with each session's area.
+abbrev pub memory_lent : List ℕ → List ℕ → List ℕ → List (List ℕ) → Memory
+memory_lent zone first second l = memory_of zone first second (get_or l 0 []) (get_or l 1 []) (get_or l 2 []) (get_or l 3 [])
+
+-- The sessions' slots.
+abbrev pub slots_at : Server → List (List ℕ) → List Slot
+slots_at s l =
+    slot_of (session_at 0 s) (get_or l 0 [])
+    ∷ slot_of (session_at 1 s) (get_or l 1 [])
+    ∷ slot_of (session_at 2 s) (get_or l 2 [])
+    ∷ slot_of (session_at 3 s) (get_or l 3 [])
+    ∷ []
 
 -- What each slot's session is sent when the store changes from old to new.
-pub record TellsAll (old new : List Record) (slots : List Slot) (o o' : List ℕ) (n : Counts) : Type 0 where
+pub record TellsAll (old new : List Record) (slots : List Slot) (o o' : List ℕ) (n : List ℕ) : Type 0 where
   pub output : o' ≡ written 0 (map (push_to old new) slots) o
-  pub counted : counts_of n ≡ map length (map (push_to old new) slots)
+  pub counted : n ≡ map length (map (push_to old new) slots)
 
 -- 1 where nothing is written, else 2 with the counts.
 unfoldable pub told_of : List ℕ → Service.Answer
@@ -39,17 +56,7 @@ told_of ns = cond (all_of (λ (n : ℕ). eqb n 0) ns) done (sent ns)
 
 -- The other area holds the store.
 unfoldable pub committed_of : ℕ → ℕ → Server → Server
-committed_of t records s =
-    record {
-      latest = t;
-      zone = s.zone;
-      records = records;
-      second = not s.second;
-      s0 = s.s0;
-      s1 = s.s1;
-      s2 = s.s2;
-      s3 = s.s3;
-    }
+committed_of t records s = record s { latest = t; records = records; second = not s.second }
 
 pub record Announces (s : Server) (t records : ℕ) (old new : List Record) (slots : List Slot) (o o' : List ℕ) (r : Outcome) : Type 0 where
   pub numbers : r.server ≡ committed_of t records s
@@ -69,7 +76,12 @@ put_other s a m =
       s3 = m.s3;
     }
 
--- A batch: `old` is the area that holds the store, `new` what the other one became.
-pub record Edits (s : Server) (t : ℕ) (zone old new a b c d bytes o o' : List ℕ) (r : Outcome) : Type 0 where
-  pub gives : (m : Memory) → m.zone ≡ zone → holding s m ≡ old
-      → Gives s r (put_other s new (with_areas a b c d m)) o' (batch_outcome (state_of s (with_areas a b c d m)) t bytes o)
+-- What comes of a refusal: the numbers as they came.
+abbrev pub given : Server → Result Outcome Refusal → Outcome
+given s (Ok u) = u
+given s (Err x) = refusing s x
+
+-- A batch: `old` is the area that holds the store, `new` what the other one became; l has each session's area.
+pub record Edits (s : Server) (t : ℕ) (zone old new : List ℕ) (l : List (List ℕ)) (bytes o o' : List ℕ) (r : Outcome) : Type 0 where
+  pub gives : (first second : List ℕ) → let m = memory_lent zone first second l in holding s m ≡ old
+      → Gives s r (put_other s new m) o' (batch_outcome (state_of s m) t bytes o)

@@ -3,4 +3,4 @@
 
 mod pushing;
 
-pub use pushing::batch;
+pub use pushing::{Tables, batch};

@@ -1,174 +1,156 @@
 // Batch: record edits, and the PUSH for each session whose view they change.
 ghost use Rattle.std.specs.Prelude.{◌*◌, ◌≤◌, ◌<◌, ◌≡◌, length, true};
-ghost use Rattle.zone.specs.Table.{records_of};
+ghost use Rattle.zone.specs.Table.{records_in};
 ghost use Rattle.service.specs.Call.{Bytes, Call, push_to, edits};
 ghost use Rattle.service.specs.State.{max_sessions};
 ghost use Rattle.service.specs.Checks.{output_size, least_output};
-ghost use Rattle.server.specs.Memory.{slot_of, memory_of};
-ghost use Rattle.server.specs.Answers.{answer_of, counts_of, Serves};
-ghost use Rattle.server_batch.specs.Pushing.{Tells, Changed, TellsAll, told_of, committed_of, Announces, slots_at, Edits};
+ghost use Rattle.server.specs.Memory.{slot_of};
+ghost use Rattle.server.specs.Answers.{answer_of, Serves};
+ghost use Rattle.server_batch.specs.Pushing.{Tells, Changed, TellsAll, told_of, committed_of, Announces, Edits};
+ghost use Rattle.server_batch.specs.Pushing.{slots_at, areas_in, memory_lent, given};
 ghost use Rattle.std.proofs.Math.Pow.{are_bytes};
 
-use notify::{Marks, arrived, departed, write_push};
+use notify::{Change, arrived, departed, write_push};
 use server::{
-    Answer, Brought, Checked, Counts, Given, Name, Outcome, Server, Session, check, output_at,
-    refused,
+    Answer, Brought, Counts, Name, Outcome, SESSIONS, Server, Session, check, output_at, refused,
 };
 use service::Refusal;
+use session::Subscriptions;
 use table::part;
-use zone::BatchResult;
+use zone::Store;
+
+// Each session's subscriptions.
+pub type Tables<'a> = [&'a session::Area; SESSIONS as usize];
 
 // The PUSH of session i, in its part of the output; how many bytes it has.
-fn tell(
-    x: Session,
-    i: u32,
-    old: &zone::Area,
-    olds: usize,
-    gone: &Marks,
-    new: &zone::Area,
-    news: usize,
-    fresh: &Marks,
-    subs: &session::Area,
-    out: &mut [u8],
-) -> usize
-    requires { (i < max_sessions) × (least_output ≤ length out.old)
-        × Changed (records_of olds old.now) (records_of news new.now) gone.now fresh.now }
-    ensures { let before = records_of olds old.now in
-        let after = records_of news new.now in
-        let push = push_to before after (slot_of x subs.now) in
+fn tell(x: Session, i: usize, change: Change<'_>, subs: &session::Area, out: &mut [u8]) -> usize
+    requires { (i < max_sessions) × (least_output ≤ length out.old) × Changed change }
+    ensures { let push = push_to (records_in change.entry.old) (records_in change.entry.new) (slot_of x subs.now) in
         Tells push (i * output_size) out.old out.new result }
 {
     if x.live {
-        let at = output_at(i);
-        return write_push(
-            old,
-            olds,
-            gone,
-            new,
-            news,
-            fresh,
-            subs,
-            x.count,
-            &mut out[at..],
-        );
+        let at = output_at(i as u32);
+        let subs = Subscriptions {
+            area: subs,
+            count: x.count,
+        };
+        return write_push(change, subs, &mut out[at..]);
     }
     0
 }
 
 // Those of all sessions.
-fn tell_all(
-    server: Server,
-    old: &zone::Area,
-    gone: &Marks,
-    new: &zone::Area,
-    news: usize,
-    fresh: &Marks,
-    s0: &session::Area,
-    s1: &session::Area,
-    s2: &session::Area,
-    s3: &session::Area,
-    out: &mut [u8],
-) -> Counts
-    requires { (least_output ≤ length out.old)
-        × Changed (records_of server.records old.now) (records_of news new.now) gone.now fresh.now }
-    ensures { let before = records_of server.records old.now in
-        let after = records_of news new.now in
-        let slots = slots_at server s0.now s1.now s2.now s3.now in
-        TellsAll before after slots out.old out.new result }
+fn tell_all(server: Server, change: Change<'_>, tables: Tables<'_>, out: &mut [u8]) -> Counts
+    requires { (least_output ≤ length out.old) × Changed change }
+    ensures { let slots = slots_at server (areas_in tables.entry) in
+        TellsAll (records_in change.entry.old) (records_in change.entry.new) slots out.old out.new result }
 {
-    let x0 = server.s0;
-    let x1 = server.s1;
-    let x2 = server.s2;
-    let x3 = server.s3;
-    Counts {
-        c0: tell(x0, 0, old, server.records, gone, new, news, fresh, s0, out),
-        c1: tell(x1, 1, old, server.records, gone, new, news, fresh, s1, out),
-        c2: tell(x2, 2, old, server.records, gone, new, news, fresh, s2, out),
-        c3: tell(x3, 3, old, server.records, gone, new, news, fresh, s3, out),
+    let mut counts = [0; SESSIONS as usize];
+    for i in 0..SESSIONS as usize {
+        counts[i] = tell(server.sessions[i], i, change, tables[i], out);
     }
+    counts
 }
 
 // 1 where nothing is written.
+#[tactic(auto, unfolding(crate::specs::Pushing::told_of, server::specs::Answers::answer_of))]
 fn told(counts: Counts) -> Answer
-    ensures { answer_of result ≡ told_of (counts_of counts) }
+    ensures { answer_of result ≡ told_of counts }
 {
-    if counts.c0 != 0 {
-        return Answer::Sent(counts);
+    if counts.iter().all(|n| *n == 0) {
+        return Answer::Done;
     }
-    if counts.c1 != 0 {
-        return Answer::Sent(counts);
-    }
-    if counts.c2 != 0 {
-        return Answer::Sent(counts);
-    }
-    if counts.c3 != 0 {
-        return Answer::Sent(counts);
-    }
-    Answer::Done
+    Answer::Sent(counts)
 }
 
-// The other area holds the store, with so many records.
-fn committed(mut server: Server, t: u64, records: usize) -> Server
+// The other area holds the store.
+#[tactic(auto, unfolding(crate::specs::Pushing::committed_of))]
+fn committed(server: Server, t: u64, records: usize) -> Server
     ensures { result ≡ committed_of t records server }
 {
-    let other = !server.second;
-    server.latest = t;
-    server.records = records;
-    server.second = other;
-    server
+    Server {
+        latest: t,
+        records,
+        second: !server.second,
+        ..server
+    }
 }
 
 // What the batch changes is found once, for all sessions.
 fn announced(
     server: Server,
     t: u64,
-    old: &zone::Area,
-    new: &zone::Area,
-    news: usize,
-    s0: &session::Area,
-    s1: &session::Area,
-    s2: &session::Area,
-    s3: &session::Area,
+    old: Store<'_>,
+    new: Store<'_>,
+    tables: Tables<'_>,
     out: &mut [u8],
 ) -> Outcome
     requires { least_output ≤ length out.old }
-    ensures { let before = records_of server.records old.now in
-        let after = records_of news new.now in
-        let slots = slots_at server s0.now s1.now s2.now s3.now in
-        Announces server t news before after slots out.old out.new result }
+    ensures { let slots = slots_at server (areas_in tables.entry) in
+        Announces server t new.entry.count (records_in old.entry) (records_in new.entry) slots out.old out.new result }
 {
-    let gone = departed(old, server.records, new, news);
-    let fresh = arrived(old, server.records, new, news);
-    let counts = tell_all(server, old, &gone, new, news, &fresh, s0, s1, s2, s3, out);
+    let change = Change {
+        old,
+        gone: &departed(old, new),
+        new,
+        fresh: &arrived(old, new),
+    };
+    let counts = tell_all(server, change, tables, out);
     Outcome {
-        server: committed(server, t, news),
+        server: committed(server, t, new.count),
         answer: told(counts),
     }
 }
 
-// From the area that holds the store into the other one, which then holds it. A refused batch leaves the first as it was.
+// From the area that holds the store into the other one, which then holds it. A fault leaves the first as it was.
 fn edit(
     server: Server,
     zone: &Name,
     old: &zone::Area,
     new: &mut zone::Area,
-    s0: &session::Area,
-    s1: &session::Area,
-    s2: &session::Area,
-    s3: &session::Area,
+    tables: Tables<'_>,
     t: u64,
     bytes: &[u8],
     out: &mut [u8],
-) -> Outcome
+) -> Result<Outcome, Refusal>
     requires { least_output ≤ length out.old }
-    ensures { Edits server t zone.now old.now new.new
-        s0.now s1.now s2.now s3.now
-        bytes.now out.old out.new result }
+    ensures { Edits server t zone.now old.now new.new (areas_in tables.entry) bytes.now out.old out.new (given server result) }
 {
-    let name = part(zone, 0, server.zone);
-    match zone::batch(name, bytes, old, server.records, new) {
-        BatchResult::Faulty(f) => refused(server, Refusal::Batch(f)),
-        BatchResult::Stored(n) => announced(server, t, old, new, n, s0, s1, s2, s3, out),
+    let old = Store {
+        area: old,
+        count: server.records,
+    };
+    let count = zone::batch(part(zone, 0, server.zone), bytes, old, new)?;
+    Ok(announced(server, t, old, Store { area: new, count }, tables, out))
+}
+
+// The checks, and then the edits.
+fn checked(
+    server: Server,
+    zone: &Name,
+    first: &mut zone::Area,
+    second: &mut zone::Area,
+    tables: Tables<'_>,
+    t: u64,
+    bytes: &[u8],
+    out: &mut [u8],
+) -> Result<Outcome, Refusal>
+    ensures { (
+        let before = memory_lent zone.now first.old second.old (areas_in tables.entry) in
+        let after = memory_lent zone.now first.new second.new (areas_in tables.entry) in
+        let call : Bytes → Call = λ lent. edits t lent out.old in
+        (small : are_bytes bytes.now ≡ true)
+        → Serves server before (call (record { list = bytes.now; small = small })) (given server result) after out.new) }
+{
+    let b = Brought {
+        output: Some(out.len() as u64),
+        ..Brought::at(t)
+    };
+    check(server, b)?;
+    if server.second {
+        edit(server, zone, second, first, tables, t, bytes, out)
+    } else {
+        edit(server, zone, first, second, tables, t, bytes, out)
     }
 }
 
@@ -177,36 +159,21 @@ pub fn batch(
     zone: &Name,
     first: &mut zone::Area,
     second: &mut zone::Area,
-    s0: &session::Area,
-    s1: &session::Area,
-    s2: &session::Area,
-    s3: &session::Area,
+    tables: Tables<'_>,
     t: u64,
     bytes: &[u8],
     out: &mut [u8],
 ) -> Outcome
     ensures serves { (
-        let before = memory_of zone.now first.old second.old s0.now s1.now s2.now s3.now in
-        let after = memory_of zone.now first.new second.new s0.now s1.now s2.now s3.now in
+        let before = memory_lent zone.now first.old second.old (areas_in tables.entry) in
+        let after = memory_lent zone.now first.new second.new (areas_in tables.entry) in
         let call : Bytes → Call = λ lent. edits t lent out.old in
         (small : are_bytes bytes.now ≡ true)
         → Serves server before (call (record { list = bytes.now; small = small })) result after out.new) }
     ensures small { are_bytes bytes.now ≡ true }
 {
-    let b = Brought {
-        output: Given::Is(out.len() as u64),
-        time: t,
-        session: Given::Absent,
-        message: Given::Absent,
-    };
-    match check(server, b) {
-        Checked::Refuse(why) => refused(server, why),
-        Checked::Pass => {
-            if server.second {
-                edit(server, zone, second, first, s0, s1, s2, s3, t, bytes, out)
-            } else {
-                edit(server, zone, first, second, s0, s1, s2, s3, t, bytes, out)
-            }
-        }
+    match checked(server, zone, first, second, tables, t, bytes, out) {
+        Ok(outcome) => outcome,
+        Err(why) => refused(server, why),
     }
 }

@@ -1,13 +1,16 @@
 -- `server_batch::pushing::edit` meets its contract: a fault, or the new store and what the sessions are told. Assumes nothing.
+use Rattle.std.proofs.lemmas.Result.{err_from_is_err_and}
+use Rattle.server_batch.specs.Pushing.{areas_in}
 use Rattle.server_batch.proofs.Pushed.{edits-faulty, edits-stored}
 use Rattle.server_batch.proofs.pushing.edit.Goals as goal
 
-pub returns-in-Faulty : goal.returns-in-Faulty
-returns-in-Faulty c =
+pub returns-in_err-count : goal.returns-in_err-count
+returns-in_err-count c =
     let a = c.args in
-    edits-faulty a.server a.t a.zone.now a.old.now _ a.s0.now a.s1.now a.s2.now a.s3.now a.bytes.now a.out.now _ _ c.part-name.ensures c.batch.ensures _ c.in-Faulty.is _ c.refused.ensures
+    let p = err_from_is_err_and c.from_residual.result c.from_residual.ensures.1 in
+    edits-faulty a.server a.t a.zone.now a.old.now _ (areas_in a.tables) a.bytes.now a.out.now _ c.batch.result c.part.ensures c.batch.ensures _ c.in_err-count.was _ (rw (p.1, p.2))
 
-pub returns-in-Stored : goal.returns-in-Stored
-returns-in-Stored c =
+pub returns : goal.returns
+returns c =
     let a = c.args in
-    edits-stored a.server a.t a.zone.now a.old.now _ a.s0.now a.s1.now a.s2.now a.s3.now a.bytes.now a.out.now _ c.batch.result c.part-name.ensures c.batch.ensures _ c.in-Stored.is _ _ c.announced.ensures
+    edits-stored a.server a.t a.zone.now a.old.now _ (areas_in a.tables) a.bytes.now a.out.now _ c.batch.result c.part.ensures c.batch.ensures _ c.in_ok-count.was _ _ c.announced.ensures
