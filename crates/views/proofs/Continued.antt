@@ -12,8 +12,7 @@ use Rattle.server.specs.Answers.{answer_of, Serves}
 use Rattle.server.specs.Starting.{Starts, started_of}
 use Rattle.server.specs.declared.state.Server.{Server}
 use Rattle.server.specs.declared.answer.Outcome.{Outcome}
-use Rattle.server.specs.declared.starting.Started.{Started}
-use Rattle.server.specs.declared.starting.Started.TheVariants.{Running, Refused}
+use Rattle.std.specs.Prelude.{Result, Ok, Err}
 use Rattle.views.specs.Runs.{Runs, begun, next}
 use Rattle.views.specs.Plays.{Continues, Begins}
 use Rattle.views.specs.declared.Ran.{Ran}
@@ -44,13 +43,13 @@ module _ (s : Server) (before between after : Memory) (t : ℕ) (m b lent output
           next (next p (opens t) x before [] (opens-it before)) (receives t 0 (record { list = m; small = hears.1 }) lent) y between output
           (hears.0 hears.1)
 
-module _ (zone : List ℕ) (was is : List ℕ) (k : Started) (e : Starts zone was is k) where
-  pub unnamed-start : (why : Refusal) → k ≡ Refused why → start zone ≡ unnamed why
+module _ (zone : List ℕ) (was is : List ℕ) (k : Result Server Refusal) (e : Starts zone was is k) where
+  pub unnamed-start : (why : Refusal) → k ≡ Err why → start zone ≡ unnamed why
   unnamed-start why p =
       let none : Memory = memory_of [] [] [] [] [] [] [] in
-      sym (e.state none) ∙ ap (λ (x : Started). started_of x (with_zone is none)) p
+      sym (e.state none) ∙ ap (λ (x : Result Server Refusal). started_of x (with_zone is none)) p
 
-  pub begins : (s : Server) → k ≡ Running s → (t : ℕ) (m b lent output lent' output' first second a c d f : List ℕ) (r : Ran) (after : Memory)
+  pub begins : (s : Server) → k ≡ Ok s → (t : ℕ) (m b lent output lent' output' first second a c d f : List ℕ) (r : Ran) (after : Memory)
       → Continues s (memory_of is first second a c d f) t m b lent output lent' output' r after
       → Begins zone t m b lent output lent' output' r after
   begins s p t m b lent output lent' output' first second a c d f r after h =
@@ -59,7 +58,7 @@ module _ (zone : List ℕ) (was is : List ℕ) (k : Started) (e : Starts zone wa
       record {
         server = s;
         before = held;
-        starts = sym (e.state held) ∙ ap (λ (x : Started). started_of x (with_zone is held)) p;
+        starts = sym (e.state held) ∙ ap (λ (x : Result Server Refusal). started_of x (with_zone is held)) p;
         continues = h;
         runs = h.runs run;
         holds = h.holds run;

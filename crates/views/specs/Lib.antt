@@ -2,3 +2,4 @@
 pub mod Runs
 pub mod Plays
 pub mod Isolation
+pub mod Lent

@@ -1,6 +1,6 @@
 -- Calls in code, one after the other: an open, a message to session 0 and a batch, after any run and from a start; and what
 -- demand 3 says of them.
-use Rattle.std.specs.Prelude.{ℕ, true, List, [], ◌≡◌}
+use Rattle.std.specs.Prelude.{ℕ, true, List, [], ◌≡◌, Result, Ok, Err}
 use Rattle.std.proofs.Math.Pow.{are_bytes}
 use Rattle.service.specs.Call.{Bytes, opens, receives, edits, start, running, unnamed}
 use Rattle.service.specs.Observer.{Observer, watching, observe}
@@ -9,8 +9,7 @@ use Rattle.server.specs.Answers.{answer_of, Serves}
 use Rattle.server.specs.declared.state.Server.{Server}
 use Rattle.views.specs.Runs.{Runs, Holds}
 use Rattle.views.specs.declared.Ran.{Ran}
-use Rattle.views.specs.declared.Played.{Played}
-use Rattle.views.specs.declared.Played.TheVariants.{Unnamed, Run}
+use Rattle.service.specs.declared.refusal.Refusal.{Refusal}
 
 -- The observer after the open and the message, for which `lent` was lent as output and is `output` then.
 abbrev pub watched : ℕ → Bytes → List ℕ → List ℕ → Ran → Observer → Observer
@@ -48,7 +47,7 @@ pub record Begins (zone : List ℕ) (t : ℕ) (m b lent output lent' output' : L
       (edits t (record { list = b; small = continues.batch }) lent') r.told after output'
 
 -- Where the name is no name, nothing is called but start, and nothing is written.
-abbrev pub Plays : List ℕ → ℕ → List ℕ → List ℕ → List ℕ → List ℕ → List ℕ → List ℕ → Played → Memory → Type 0
-Plays zone t m b lent output lent' output' (Unnamed x) after =
+abbrev pub Plays : List ℕ → ℕ → List ℕ → List ℕ → List ℕ → List ℕ → List ℕ → List ℕ → Result Ran Refusal → Memory → Type 0
+Plays zone t m b lent output lent' output' (Err x) after =
     (start zone ≡ unnamed x) × (output ≡ lent) × (output' ≡ lent')
-Plays zone t m b lent output lent' output' (Run r) after = Begins zone t m b lent output lent' output' r after
+Plays zone t m b lent output lent' output' (Ok r) after = Begins zone t m b lent output lent' output' r after
