@@ -1,8 +1,11 @@
 -- Laws of the three answers: none is ever 0, and the third from the second.
 -- Assumes nothing.
 use Prim.Native.Nat.{ℕ}
+use Rattle.std.specs.Prelude.{Option, Some, None}
+use native.Mathlib.Omega.{arith}
+use Rattle.std.specs.Option.{option_eq}
 use mathlib.Core.Path.{◌≡◌, refl, sym, ◌∙◌}
-use mathlib.Core.Bool.{Bool, true, false, cond, ◌&&◌}
+use mathlib.Core.Bool.{Bool, true, false, cond, ◌&&◌, beq}
 use mathlib.Core.List.{List}
 use lib.ListN.{length}
 use lib.Dec.{ltb}
@@ -14,7 +17,7 @@ use Rattle.dso.specs.declared.judgment.ReplyCode.{ReplyCode}
 use Rattle.dso.specs.declared.judgment.ReplyCode.TheVariants.{FormErr, ServFail, NotAuth, DsoTypeNi}
 use Rattle.dso.specs.declared.judgment.Judgment.{Judgment}
 use Rattle.dso.specs.declared.judgment.Judgment.TheVariants.{NotOurs, Abort, Reply, Keepalive, Subscribe, Unsubscribe, Reconfirm}
-use Rattle.weavemitten.specs.Questions.{reply_kind, kind_of, message_kind, answer, same_names, record_match}
+use Rattle.weavemitten.specs.Questions.{reply_kind, kind_of, message_kind, answer, compared, answer_number, same_names, record_match}
 
 -- ---- no answer is 0
 
@@ -56,23 +59,33 @@ unfolding record_match
 record_match-nonzero qname qtype qclass name rtype class =
     named-nonzero (is_name qname && is_name name) (same_name qname name && asks_for qtype qclass rtype class)
 
--- ---- the third answer from the second
+-- ---- the code's answers
 
-names-alike : (p s a : Bool) → answer p s ≡ 1 → answer true a ≡ answer p (s && a)
-names-alike true true a e = refl
-names-alike true false a e = absurd (eqb-false 2 1 refl e)
-names-alike false s a e = absurd (eqb-false 3 1 refl e)
+answer_numbered : (named holds : Bool) → answer_number (cond named (Some holds) None) ≡ answer named holds
+answer_numbered true holds = refl
+answer_numbered false holds = refl
 
-names-unlike : (p s a : Bool) → (answer p s ≡ 1 → ⊥) → answer p s ≡ answer p (s && a)
-names-unlike true true a e = absurd (e refl)
-names-unlike true false a e = refl
-names-unlike false s a e = refl
+pub same_names_compared : (a b : List ℕ) → answer_number (compared a b) ≡ same_names a b
+unfolding same_names
+same_names_compared a b = answer_numbered (is_name a && is_name b) (same_name a b)
 
-module _ (qname : List ℕ) (qtype qclass : ℕ) (name : List ℕ) (rtype class x : ℕ) (same : x ≡ same_names qname name) where
-  pub match-named : (a : Bool) → a ≡ asks_for qtype qclass rtype class → x ≡ 1 → answer true a ≡ record_match qname qtype qclass name rtype class
-  unfolding record_match same_names
-  match-named a f e = rw f (names-alike (is_name qname && is_name name) (same_name qname name) (asks_for qtype qclass rtype class) (sym same ∙ e))
+-- The third answer: where the names are the same, the type and class decide.
+matched : (named same asks : Bool) → option_eq beq (cond named (Some same) None) (Some true) ≡ true → cond asks 1 2 ≡ answer named (same && asks)
+matched true true asks e = refl
+matched true false asks e = absurd (let z : ◌≡◌ {A = ℕ} 0 1 = cc in omega arith)
+matched false same asks e = absurd (let z : ◌≡◌ {A = ℕ} 0 1 = cc in omega arith)
 
-  pub match-unnamed : (x ≡ 1 → ⊥) → x ≡ record_match qname qtype qclass name rtype class
-  unfolding record_match same_names
-  match-unnamed e = same ∙ names-unlike (is_name qname && is_name name) (same_name qname name) (asks_for qtype qclass rtype class) (λ d. e (same ∙ d))
+unmatched : (named same asks : Bool) → option_eq beq (cond named (Some same) None) (Some true) ≡ false
+    → answer_number (cond named (Some same) None) ≡ answer named (same && asks)
+unmatched true true asks e = absurd (let z : ◌≡◌ {A = ℕ} 0 1 = cc in omega arith)
+unmatched true false asks e = refl
+unmatched false same asks e = refl
+
+module _ (qname : List ℕ) (qtype qclass : ℕ) (name : List ℕ) (rtype class : ℕ) (r : Option Bool) (e : r ≡ compared qname name) (b : Bool) (f : b ≡ option_eq beq r (Some true)) where
+  pub match_same : b ≡ true → cond (asks_for qtype qclass rtype class) 1 2 ≡ record_match qname qtype qclass name rtype class
+  unfolding record_match
+  match_same h = matched (is_name qname && is_name name) (same_name qname name) (asks_for qtype qclass rtype class) (rw (← e) (sym f ∙ h))
+
+  pub match_other : b ≡ false → answer_number r ≡ record_match qname qtype qclass name rtype class
+  unfolding record_match
+  match_other h = rw e (unmatched (is_name qname && is_name name) (same_name qname name) (asks_for qtype qclass rtype class) (rw (← e) (sym f ∙ h)))

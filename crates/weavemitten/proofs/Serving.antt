@@ -16,11 +16,8 @@ use Rattle.server.specs.declared.state.Server.{Server}
 use Rattle.server.specs.declared.answer.Answer.{Answer}
 use Rattle.server.specs.declared.answer.Outcome.{Outcome}
 use Rattle.server.specs.declared.change.Change.TheVariants.{Opens, Closes, Ends}
-use Rattle.server.specs.declared.change.Decision.{Decision}
-use Rattle.server.specs.declared.change.Decision.TheVariants.{Takes, Refuses}
-use Rattle.server.specs.declared.starting.Started.{Started}
-use Rattle.server.specs.declared.starting.Started.TheVariants.{Running}
-use Rattle.server.specs.declared.starting.Started.TheVariants as Start
+use Rattle.server.specs.declared.change.Change.{Change}
+use Rattle.std.specs.Prelude.{Result, Ok, Err}
 use Rattle.server.specs.Memory.{Memory, memory_of, state_of}
 use Rattle.server.specs.Answers.{Gives, Serves, answer_of, last_accepted, kept_by, heard_in}
 use Rattle.server.specs.Changes.{change_answer, answer_by, decided_by}
@@ -53,14 +50,14 @@ module _ (w : List ℕ) (t i : ℕ) (h : Heard) (r : ℕ) (e : r ≡ answer_numb
 
 -- The same of a decision, of which the sessions that change are kept.
 module _ (w w' : List ℕ) where
-  decision-refused : (d : Decision) → last_accepted < answer_number (answer_of (answer_by d)) → ((x : Refusal) → d ≡ Refuses x → w' ≡ w) → w' ≡ w
+  decision-refused : (d : Result Change Refusal) → last_accepted < answer_number (answer_of (answer_by d)) → ((x : Refusal) → d ≡ Err x → w' ≡ w) → w' ≡ w
   unfolding answer_number answer_of answer_by change_answer
-  decision-refused (Takes (Opens i)) h u = absurd (omega arith)
-  decision-refused (Takes (Closes i)) h u = absurd (omega arith)
-  decision-refused (Takes (Ends f)) h u = absurd (omega arith)
-  decision-refused (Refuses x) h u = u x refl
+  decision-refused (Ok (Opens i)) h u = absurd (omega arith)
+  decision-refused (Ok (Closes i)) h u = absurd (omega arith)
+  decision-refused (Ok (Ends f)) h u = absurd (omega arith)
+  decision-refused (Err x) h u = u x refl
 
-  pub kept-decision : (t : ℕ) (d : Decision) → SavedDecision t d w w' → (a : Answer) → a ≡ answer_by d
+  pub kept-decision : (t : ℕ) (d : Result Change Refusal) → SavedDecision t d w w' → (a : Answer) → a ≡ answer_by d
       → (r : ℕ) → r ≡ answer_number (answer_of a) → Keeps w w' (decided_by (server_of w) t d) r
   kept-decision t d h a f r e =
       let g : r ≡ answer_number (answer_of (answer_by d))
@@ -105,7 +102,7 @@ module _ (w w' : List ℕ) (s : Server) (e : s ≡ server_of w) (u : Outcome) (r
       }
 
 -- The same of a decision.
-module _ (w w' : List ℕ) (s : Server) (e : s ≡ server_of w) (t : ℕ) (d : Decision) (r : ℕ)
+module _ (w w' : List ℕ) (s : Server) (e : s ≡ server_of w) (t : ℕ) (d : Result Change Refusal) (r : ℕ)
     (h : Keeps w w' (decided_by (server_of w) t d) r) (m : Memory) (call : Call) (g : Serves s m call (decided_by s t d) m []) where
   keeps-decision : Keeps w w' (decided_by s t d) r
   keeps-decision = rw e h
@@ -124,8 +121,8 @@ module _ (w w' : List ℕ) (s : Server) (e : s ≡ server_of w) (t : ℕ) (d : D
 nowhere : Memory
 nowhere = memory_of [] [] [] [] [] [] []
 
-module _ (zone w before after : List ℕ) (t : Started) (g : Starts zone before after t) where
-  pub begun : (s : Server) → t ≡ Running s → {w' : List ℕ} → Saved s w' → Begins zone w w' before after 1
+module _ (zone w before after : List ℕ) (t : Result Server Refusal) (g : Starts zone before after t) where
+  pub begun : (s : Server) → t ≡ Ok s → {w' : List ℕ} → Saved s w' → Begins zone w w' before after 1
   unfolding Call.start
   begun s f {w'} x = go (is_name zone) refl
     where
@@ -139,7 +136,7 @@ module _ (zone w before after : List ℕ) (t : Started) (g : Starts zone before 
           }
       go false n = absurd (let z = rw (f, n) at (g.state nowhere) in let y : ◌≡◌ {A = ℕ} 0 1 = cc in omega arith)
 
-  pub unbegun : (x : Refusal) → t ≡ Start.Refused x → (r : ℕ) → r ≡ refusal_number x → Begins zone w w before after r
+  pub unbegun : (x : Refusal) → t ≡ Err x → (r : ℕ) → r ≡ refusal_number x → Begins zone w w before after r
   unfolding Call.start refusal_number
   unbegun x f r p = go (is_name zone) refl
     where

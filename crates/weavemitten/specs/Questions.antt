@@ -1,5 +1,5 @@
 -- The answers to the host's C program (01, "What the host's C program asks").
-use Rattle.std.specs.Prelude.{ℕ, Bool, cond, ◌&&◌, List, length, ltb}
+use Rattle.std.specs.Prelude.{ℕ, Bool, cond, Option, Some, None, ◌&&◌, List, length, ltb}
 use Rattle.wire.specs.Name.{is_name, same_name}
 use Rattle.dso.specs.Judge.{judgment}
 use Rattle.dso.specs.Match.{asks_for}
@@ -36,6 +36,14 @@ message_kind m = cond (ltb max_message (length m)) 18 (kind_of (judgment m))
 -- "1 yes, 2 no, 3 one is no name": whether both are names, and whether the answer is yes.
 abbrev pub answer : Bool → Bool → ℕ
 answer named holds = cond named (cond holds 1 2) 3
+
+-- Whether two names are the same name, where both are names; and the number of such an answer.
+abbrev pub compared : List ℕ → List ℕ → Option Bool
+compared a b = cond (is_name a && is_name b) (Some (same_name a b)) None
+
+abbrev pub answer_number : Option Bool → ℕ
+answer_number None = 3
+answer_number (Some holds) = cond holds 1 2
 
 -- "Second, whether two whole names are the same name". A name with bytes behind it is no name.
 unfoldable pub same_names : List ℕ → List ℕ → ℕ

@@ -10,11 +10,11 @@ ghost use Rattle.words.specs.Words.{server_of};
 ghost use Rattle.weavemitten.specs.Calls.{held_by, Keeps, Begins, Returns, ReturnsWith, ReturnsOn};
 
 use server::{
-    Decision, Heard, LAST_ACCEPTED, Name, Outcome, Started, answer_number, decide_close,
-    decide_open, decide_tick, decision_answer, refusal_number, start,
+    Decision, Heard, LAST_ACCEPTED, Name, Outcome, answer_number, decide_close, decide_open,
+    decide_tick, decision_answer, refusal_number, start,
 };
 use server_batch::batch;
-use server_message::hear;
+use server_message::{Stores, Tables, hear};
 use service::SessionNumber;
 use words::{Values, Words, load, load_context, put, save, save_decision, save_session};
 
@@ -57,11 +57,11 @@ pub extern "C" fn weavemitten_server_start(words: &mut Words, octets: &mut Name,
     ensures { Begins zone.now words.old words.new octets.old octets.new result }
 {
     match start(zone, octets) {
-        Started::Running(server) => {
+        Ok(server) => {
             save(words, server);
             1
         }
-        Started::Refused(why) => refusal_number(why),
+        Err(why) => refusal_number(why),
     }
 }
 
@@ -109,13 +109,23 @@ pub extern "C" fn weavemitten_server_message(
         ReturnsOn m.now values.new words.old words.new after out.new result
         (λ bytes. outcome (held_by words.old before) (call bytes))) }
 {
+    let stores = Stores {
+        name: zone,
+        first,
+        second,
+    };
+    let tables = Tables { s0, s1, s2, s3 };
     let context = load_context(words, session);
-    let number = SessionNumber(session);
     let heard = hear(
-        context, zone, first, second, s0, s1, s2, s3, time, number, m, out,
+        context,
+        stores,
+        tables,
+        time,
+        SessionNumber(session),
+        m,
+        out,
     );
-    let answer = heard.answer;
-    put(values, answer);
+    put(values, heard.answer);
     keep_session(words, time, session, heard)
 }
 
@@ -142,11 +152,9 @@ pub extern "C" fn weavemitten_server_batch(
         (λ lent. outcome (held_by words.old before) (call lent))) }
 {
     let server = load(words);
-    let outcome = batch(
-        server, zone, first, second, s0, s1, s2, s3, time, bytes, out,
-    );
-    let answer = outcome.answer;
-    put(values, answer);
+    let tables = [s0, s1, s2, s3];
+    let outcome = batch(server, zone, first, second, tables, time, bytes, out);
+    put(values, outcome.answer);
     keep(words, outcome)
 }
 

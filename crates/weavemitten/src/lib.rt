@@ -5,7 +5,7 @@
 mod calls;
 
 ghost use Rattle.std.specs.Prelude.{◌≡◌};
-ghost use Rattle.weavemitten.specs.Questions.{kind_of, reply_kind, message_kind, same_names, record_match};
+ghost use Rattle.weavemitten.specs.Questions.{kind_of, reply_kind, message_kind, compared, answer_number, same_names, record_match};
 
 pub use calls::{
     weavemitten_server_batch, weavemitten_server_close, weavemitten_server_message,
@@ -32,14 +32,13 @@ fn reply_kind(code: ReplyCode) -> u32
     ensures { result ≡ reply_kind code }
 {
     match code {
-        ReplyCode::FormErr => 42,
-        ReplyCode::ServFail => 42,
-        ReplyCode::NotAuth => 42,
+        ReplyCode::FormErr | ReplyCode::ServFail | ReplyCode::NotAuth => 42,
         ReplyCode::DsoTypeNi => 43,
     }
 }
 
 // What kind of message the bytes are: 40 to 47, or 18 where there are more than 65,535.
+#[tactic(auto, unfolding(crate::specs::Questions::message_kind, dso::specs::Judge::judged))]
 #[unsafe(no_mangle)]
 pub extern "C" fn weavemitten_message_kind(message: &[u8]) -> u32
     ensures { result ≡ message_kind message.now }
@@ -47,25 +46,37 @@ pub extern "C" fn weavemitten_message_kind(message: &[u8]) -> u32
     if 65535 < message.len() {
         return 18;
     }
-    let judged = judge(message);
-    let judgment = judged.judgment;
-    kind_of(judgment)
+    kind_of(judge(message).judgment)
+}
+
+// Whether two whole names are the same name; nothing where one of them is no name.
+fn compared(a: &[u8], b: &[u8]) -> Option<bool>
+    ensures { result ≡ compared a.now b.now }
+{
+    if is_name(a) && is_name(b) {
+        Some(same_name(a, b))
+    } else {
+        None
+    }
+}
+
+fn answer_number(answer: Option<bool>) -> u32
+    ensures { result ≡ answer_number answer }
+{
+    match answer {
+        Some(true) => 1,
+        Some(false) => 2,
+        None => 3,
+    }
 }
 
 // Whether two whole names are the same name: 1 yes, 2 no, 3 where one of them is no name.
+#[tactic(auto, using(crate::proofs::Answers::same_names_compared))]
 #[unsafe(no_mangle)]
 pub extern "C" fn weavemitten_same_name(a: &[u8], b: &[u8]) -> u32
     ensures { result ≡ same_names a.now b.now }
 {
-    if is_name(a) {
-        if is_name(b) {
-            if same_name(a, b) {
-                return 1;
-            }
-            return 2;
-        }
-    }
-    3
+    answer_number(compared(a, b))
 }
 
 // Whether a subscription's name, type and class match a record's: 1 yes, 2 no, 3 where a name is no name.
@@ -80,12 +91,9 @@ pub extern "C" fn weavemitten_match(
 ) -> u32
     ensures { result ≡ record_match qname.now qtype qclass name.now rtype class }
 {
-    let same = weavemitten_same_name(qname, name);
-    if same == 1 {
-        if asks_for(qtype, qclass, rtype, class) {
-            return 1;
-        }
-        return 2;
+    let same = compared(qname, name);
+    if same == Some(true) {
+        return answer_number(Some(asks_for(qtype, qclass, rtype, class)));
     }
-    same
+    answer_number(same)
 }

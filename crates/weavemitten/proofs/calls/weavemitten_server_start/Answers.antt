@@ -2,12 +2,12 @@
 use Rattle.weavemitten.proofs.Serving.{begun, unbegun}
 use Rattle.weavemitten.proofs.calls.weavemitten_server_start.Goals as goal
 
-pub returns-in-Running : goal.returns-in-Running
-returns-in-Running c =
+pub returns-in-Ok : goal.returns-in-Ok
+returns-in-Ok c =
     let a = c.args in
-    begun a.zone.now a.words.now a.octets.now _ _ c.start.ensures _ c.in-Running.is c.save.ensures
+    begun a.zone.now a.words.now a.octets.now _ _ c.start.ensures _ c.in-Ok.is c.save.ensures
 
-pub returns-in-Refused : goal.returns-in-Refused
-returns-in-Refused c =
+pub returns-in-Err : goal.returns-in-Err
+returns-in-Err c =
     let a = c.args in
-    unbegun a.zone.now a.words.now a.octets.now _ _ c.start.ensures _ c.in-Refused.is _ c.refusal_number.ensures
+    unbegun a.zone.now a.words.now a.octets.now _ _ c.start.ensures _ c.in-Err.is _ c.refusal_number.ensures
