@@ -25,6 +25,6 @@ pub record TtlSet (t : ℕ) (area : List ℕ) (i : ℕ) (after : List ℕ) : Typ
 abbrev pub numbered : List ℕ → ℕ → ℕ → ℕ → ℕ → List ℕ
 numbered area at t c ttl = sets (sets (sets area (at + 2) (octets 2 t)) (at + 4) (octets 2 c)) (at + 6) (octets 4 ttl)
 
--- The store after an edit; none where a put finds 40 others.
+-- The store after an edit; refused where a put finds 40 others.
 unfoldable pub applied : List Record → Record → Result (List Record) BatchFault
 applied store r = cond (overfull store r) (Err StoreFull) (Ok (edit store r))
