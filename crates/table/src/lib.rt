@@ -6,30 +6,57 @@ ghost use Rattle.std.proofs.lemmas.List.Edits.{sets};
 ghost use Rattle.wire.specs.Part.{part as part_of};
 ghost use Rattle.table.specs.Blocks.{slid, text_at};
 
-// A part of a slice, as far as the slice goes.
+// A part of a slice, as far as the slice goes. Tried: `get` and `unwrap_or`, here and in `text`; batches that only change TTLs then
+// take up to 1.05 times the instructions.
 pub fn part(s: &[u8], at: usize, n: usize) -> &[u8]
     ensures { result.now ≡ part_of s.now at n }
 {
-    let rest = s.get(at..).unwrap_or(&[]);
-    rest.get(..n).unwrap_or(rest)
+    if s.len() <= at {
+        return &s[0..0];
+    }
+    if s.len() - at < n {
+        return &s[at..];
+    }
+    &s[at..at + n]
 }
 
 // The octets from a place of a block on, of which the octet at another place says how many.
-#[tactic(auto, using(crate::proofs::Blocks::counted_octet))]
 pub fn text(block: &[u8], counted: usize, from: usize) -> &[u8]
     ensures { result.now ≡ text_at block.now counted from }
 {
-    let n = block.get(counted).copied().unwrap_or(0);
-    part(block, from, usize::from(n))
+    if block.len() <= counted {
+        return part(block, from, 0);
+    }
+    let n = block[counted] as usize;
+    part(block, from, n)
+}
+
+// Tried: `copy_within`; batches of 32 that delete then take 1.07 to 1.7 times the instructions.
+fn shift(area: &mut [u8], to: usize, from: usize, n: usize)
+    requires { (to ≤ from) × (from + n ≤ length area.old) }
+    ensures { area.new ≡ sets area.old to (part_of area.old from n) }
+{
+    let mut i = 0;
+    while i < n {
+        area[to + i] = area[from + i];
+        i += 1;
+    }
 }
 
 // Moves n octets down from a place to one before it. What lies past the end is not there to move.
 pub fn slide(area: &mut [u8], to: usize, from: usize, n: usize)
     ensures { area.new ≡ slid area.old to from n }
 {
-    if from < to || area.len() <= from {
+    if from < to {
         return;
     }
-    let n = n.min(area.len() - from);
-    area.copy_within(from..from + n, to);
+    if area.len() <= from {
+        return;
+    }
+    let left = area.len() - from;
+    if n <= left {
+        shift(area, to, from, n);
+    } else {
+        shift(area, to, from, left);
+    }
 }
