@@ -163,7 +163,7 @@ fn write_numbers(area: &mut [u8], at: usize, id: u16, question: Question<'_>)
     wire::write_field(area, at + RRCLASS, question.rrclass);
 }
 
-// A name behind its length.
+// A name behind its length. The length is cast, since it is known to fit: a `try_from` would bring a case that can't be.
 fn write_owner(area: &mut [u8], at: usize, name: &[u8])
     requires { (at + max_name < length area.old) × (length name.now ≤ max_name) }
     ensures { area.new ≡ sets area.old at (length name.now ∷ name.now) }
