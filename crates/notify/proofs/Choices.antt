@@ -6,7 +6,6 @@ use mathlib.Core.List.{List, [], ◌∷◌, ◌++◌, map, map-append}
 use native.Mathlib.Omega.{arith}
 use lib.ListN.{length, drop, get_or}
 use Rattle.std.specs.Prelude.{Option, Some, None}
-use Rattle.wire.specs.Name.{same_name}
 use Rattle.zone.specs.Lists.{only_if, any_of, all_of}
 use Rattle.zone.specs.Record.{Record, key_of}
 use Rattle.zone.specs.Batch.{max_records}
@@ -19,51 +18,11 @@ use Rattle.push.proofs.Covers.{at, is_true-at}
 use Rattle.push.proofs.Plains.{chosen-cases}
 use Rattle.notify.specs.declared.removal.RemovalKind.{RemovalKind}
 use Rattle.notify.specs.declared.removal.RemovalKind.TheVariants.{Single, Rrset, AllTypes, AllClasses}
-use Rattle.notify.specs.Marks.{removal_at, kind_of, same_numbers, marked, told_apart, is_head, marked_kind, heads, sent}
+use Rattle.notify.specs.Marks.{removal_at, kind_of, marked, told_apart, is_head, marked_kind, heads, sent}
 use Rattle.notify.proofs.Records.{records-end, records-next, marks-next}
-use Rattle.notify.proofs.Removals.{covers-split}
+use Rattle.notify.proofs.Removals.{covers-split, kind-same, kind-other}
 
 -- ---- whether two removals cover the same of the marked records
-
-not-marked : (mark : Bool) → not mark ≡ true → mark ≡ false
-not-marked true h = sym h
-not-marked false h = refl
-
-is-marked : (mark : Bool) → not mark ≡ false → mark ≡ true
-is-marked true h = refl
-is-marked false h = sym h
-
-module _ (mark : Bool) (narrow wide : RemovalKind) (p : (narrow ≡ Single → ⊥) × (wide ≡ Single → ⊥)) (a b : Record) where
-  pub apart-unmarked : not mark ≡ true → false ≡ told_apart mark (removal_at narrow a) (removal_at wide a) (key_of b)
-  unfolding told_apart
-  apart-unmarked h = sym (ap (λ (x : Bool). x && not (beq (covers (removal_at narrow a) (key_of b)) (covers (removal_at wide a) (key_of b)))) (not-marked mark h))
-
-  module _ (h : not mark ≡ false) (t : Bool) (e : t ≡ same_numbers narrow a b) (u : Bool) (f : u ≡ same_numbers wide a b) where
-    by-numbers : told_apart mark (removal_at narrow a) (removal_at wide a) (key_of b)
-        ≡ not (beq (t && same_name a.owner b.owner) (u && same_name a.owner b.owner))
-    unfolding told_apart
-    by-numbers =
-        ap (λ (x : Bool). x && not (beq (covers (removal_at narrow a) (key_of b)) (covers (removal_at wide a) (key_of b)))) (is-marked mark h)
-        ∙ ap₂ (λ (x y : Bool). not (beq x y)) (covers-split narrow a b p.0) (covers-split wide a b p.1)
-        ∙ ap₂ (λ (x y : Bool). not (beq (x && same_name a.owner b.owner) (y && same_name a.owner b.owner))) (sym e) (sym f)
-
-    told : told_apart mark (removal_at narrow a) (removal_at wide a) (key_of b) ≡ (not (beq t u) && same_name a.owner b.owner)
-    told = by-numbers ∙ go t u (same_name a.owner b.owner)
-      where
-        go : (t u s : Bool) → not (beq (t && s) (u && s)) ≡ (not (beq t u) && s)
-        go true true s = ap not (beq-refl s)
-        go true false true = refl
-        go true false false = refl
-        go false true true = refl
-        go false true false = refl
-        go false false s = refl
-
-    pub apart-same : not (beq t u) ≡ false → not (beq t u) ≡ told_apart mark (removal_at narrow a) (removal_at wide a) (key_of b)
-    apart-same q = q ∙ sym (told ∙ ap (λ (x : Bool). x && same_name a.owner b.owner) q)
-
-    pub apart-named : not (beq t u) ≡ true → (x y : List ℕ) → x ≡ a.owner → y ≡ b.owner → (r : Bool) → r ≡ same_name x y
-        → r ≡ told_apart mark (removal_at narrow a) (removal_at wide a) (key_of b)
-    apart-named q x y c d r h = h ∙ ap₂ same_name c d ∙ sym (told ∙ ap (λ (x : Bool). x && same_name a.owner b.owner) q)
 
 -- None of the first i marked records tells two removals apart.
 pub record Agreed (m w : Removal) (ms : List Bool) (l : List Record) (i : ℕ) : Type 0 where
@@ -256,3 +215,7 @@ choosing store ms count a ks h = heads-sent store ks ms (records_of count a)
     (λ k j.
     let i : k < min count max_records = omega (arith, length-records count a) in
     h k i ∙ sym (ap (marked_kind store (marked ms (records_of count a)) (get_or ms k false)) (records-at count a k i)))
+
+pub ruleset agreed = (kind-same, alike_same, agreed-none, agreed-all, agreed-not, agreed-turn)
+
+pub ruleset chosen_kind = (kind-same, kind-other, chosen-single, chosen-set, chosen-types, chosen-classes)

@@ -204,3 +204,5 @@ module _ (count : ℕ) (a o : List ℕ) (from : ℕ) (p : List ℕ) (t : ℕ) wh
       let k : i < min count max_records = omega (arith, length-records count a) in
       (h i (get_or w.changes i None) k (w.each i k)).octets
       ∙ ap (λ (r : Record). changes_octets (addition_at (get_or ms i false) r)) (sym (records-at count a i k))))
+
+pub ruleset first_removal = (first-not, first-turn, first-all)

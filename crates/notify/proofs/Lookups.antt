@@ -123,7 +123,7 @@ is-wanted subs r o t c w p q u e =
     same : wanted subs (record_asked r.owner r.rrtype r.rrclass) ≡ wanted subs r
     same = unfold matches_key in refl
 
-match-split : (s : Subscription) (r : Record)
+pub match-split : (s : Subscription) (r : Record)
     → matches s r ≡ (asks_for s.rrtype s.rrclass r.rrtype r.rrclass && same_name s.owner r.owner)
 unfolding matches_key same_name
 match-split s r =
@@ -134,14 +134,12 @@ pub matches-id : (id : ℕ) (name : List ℕ) (t c : ℕ) (r : Record) → match
 unfolding matches_key
 matches-id id name t c r = refl
 
-module _ (name : List ℕ) (t c : ℕ) (r : Record) (x y : ℕ) (p : x ≡ r.rrtype) (q : y ≡ r.rrclass) (v : Bool) (e : v ≡ asks_for t c x y) where
-  asked : matches (subscription 0 name t c) r ≡ (v && same_name name r.owner)
-  asked = match-split (subscription 0 name t c) r
-      ∙ ap (λ (b : Bool). b && same_name name r.owner) (sym (e ∙ ap₂ (asks_for t c) p q))
+pub ruleset ttl_held = (ttl-found, ttl-nothing)
 
-  pub match-not : v ≡ false → v ≡ matches (subscription 0 name t c) r
-  match-not h = h ∙ sym (asked ∙ ap (λ (b : Bool). b && same_name name r.owner) h)
+pub ruleset record_held = (held-there, held-found)
 
-  pub match-name : v ≡ true → (o : List ℕ) → o ≡ r.owner → (w : Bool) → w ≡ same_name name o → w ≡ matches (subscription 0 name t c) r
-  match-name h o f w g =
-      g ∙ ap (same_name name) f ∙ sym (asked ∙ ap (λ (b : Bool). b && same_name name r.owner) h)
+pub ruleset record_wanted = (is-wanted)
+
+pub ruleset record_matched = (match-split)
+
+pub ruleset standing = (stands_here, stands-past)

@@ -10,7 +10,7 @@ use lib.ListN.{drop}
 use lib.Dec.{eqb}
 use Rattle.wire.specs.Name.{lowered, same_octets, same_name}
 use Rattle.zone.specs.Lists.{any_of}
-use Rattle.zone.specs.Record.{Record, Key, key_of, same_key}
+use Rattle.zone.specs.Record.{Record, key_of, same_key}
 use Rattle.zone.specs.Batch.{max_records}
 use Rattle.zone.specs.Table.{block_at, rec_of, records_of}
 use Rattle.zone.proofs.Lists.{clash, never, not-or}
@@ -54,22 +54,9 @@ covers-split Rrset a b h =
 covers-split AllTypes a b h = and_comm (same_octets (lowered a.owner) (lowered b.owner)) (eqb a.rrclass b.rrclass)
 covers-split AllClasses a b h = refl
 
-module _ (k : RemovalKind) (a b : Record) where
-  pub covers-single : k ≡ Single → (x : Key) → x ≡ key_of b → (t : Bool) → t ≡ same_key (key_of a) x → t ≡ covers (removal_at k a) (key_of b)
-  unfolding covers removal_at
-  covers-single h x f t e = e ∙ ap (same_key (key_of a)) f ∙ sym (ap (λ (j : RemovalKind). covers (removal_at j a) (key_of b)) h)
-
-  module _ (h : k ≡ Single → ⊥) (t : Bool) (e : t ≡ same_numbers k a b) where
-    split : covers (removal_at k a) (key_of b) ≡ (t && same_name a.owner b.owner)
-    split = covers-split k a b h ∙ ap (λ (s : Bool). s && same_name a.owner b.owner) (sym e)
-
-    pub covers-names : t ≡ true → (o p : List ℕ) → o ≡ a.owner → p ≡ b.owner → (r : Bool) → r ≡ same_name o p
-        → r ≡ covers (removal_at k a) (key_of b)
-    covers-names g o p u v r f =
-        f ∙ ap₂ same_name u v ∙ sym (split ∙ ap (λ (s : Bool). s && same_name a.owner b.owner) g)
-
-    pub covers-not : t ≡ false → t ≡ covers (removal_at k a) (key_of b)
-    covers-not g = g ∙ sym (split ∙ ap (λ (s : Bool). s && same_name a.owner b.owner) g)
+pub covers_single : (a b : Record) → covers (removal_at Single a) (key_of b) ≡ same_key (key_of a) (key_of b)
+unfolding covers removal_at
+covers_single a b = refl
 
 -- ---- the widest kind that spares a record
 
@@ -97,29 +84,9 @@ width-falls AllClasses h = omega arith
 pub narrower-width : (k n : RemovalKind) → (k ≡ Single → ⊥) → n ≡ narrower k → width n < width k
 narrower-width k n h e = omega (arith, width-falls k h, ap width e)
 
--- The kind is still to be narrowed.
-pub record Narrowing (most : RemovalKind) (a b : Record) (kind : RemovalKind) : Type 0 where
-  pub rest : narrowed most a b ≡ narrowed kind a b
-
-pub narrowing_none : (most : RemovalKind) (a b : Record) → Narrowing most a b most
-narrowing_none most a b = record { rest = refl }
-
-module _ (most : RemovalKind) (a b : Record) (kind : RemovalKind) (s : Narrowing most a b kind) where
-  pub narrowing-end : kind ≡ Single → kind ≡ narrowed most a b
-  unfolding narrowed
-  narrowing-end h = h ∙ sym (s.rest ∙ ap (λ (k : RemovalKind). narrowed k a b) h)
-
-  module _ (h : kind ≡ Single → ⊥) (t : Bool) (e : t ≡ covers (removal_at kind a) (key_of b)) where
-    by : narrowed most a b ≡ cond t (narrowed (narrower kind) a b) kind
-    by = s.rest ∙ narrowed-by kind a b h ∙ ap (λ (x : Bool). cond x (narrowed (narrower kind) a b) kind) (sym e)
-
-    pub narrowing-spared : t ≡ false → kind ≡ narrowed most a b
-    narrowing-spared g = sym (by ∙ ap (λ (x : Bool). cond x (narrowed (narrower kind) a b) kind) g)
-
-    pub narrowing-turn : t ≡ true → (k : RemovalKind) → k ≡ narrower kind → Narrowing most a b k
-    narrowing-turn g k f = record {
-      rest = by ∙ ap (λ (x : Bool). cond x (narrowed (narrower kind) a b) kind) g ∙ ap (λ (j : RemovalKind). narrowed j a b) (sym f);
-    }
+pub narrowed_single : (a b : Record) → narrowed Single a b ≡ Single
+unfolding narrowed
+narrowed_single a b = refl
 
 -- ---- the widest true one
 
@@ -210,3 +177,9 @@ module _ (count : ℕ) (a : List ℕ) (r : Record) (kind : RemovalKind) (i : ℕ
     rest = s.rest ∙ ap (λ (l : List Record). widest_to r l kind) (records-next count a i n e h b f)
         ∙ widest-cons r (rec_of b) (drop (i + 1) (records_of count a)) kind ∙ ap (widest_to r (drop (i + 1) (records_of count a))) (sym g);
   }
+
+pub ruleset removal_spares = (kind-differs, kind-agrees, narrowed-by, narrowed_single, narrower-width)
+
+pub ruleset widest_removal = (widest-none, widest-turn, widest-end)
+
+pub ruleset removal_covers = (covers_single, covers-split)

@@ -108,3 +108,5 @@ module _ (says : ℕ → Option Fields → Type 0) (o : List ℕ) (at : ℕ) whe
     where
       more : all_octets (w.changes ++ (c ∷ [])) ≡ all_octets w.changes ++ given_octets c
       more = all-append w.changes (c ∷ []) ∙ ap (λ (l : List ℕ). all_octets w.changes ++ l) (append-nil (given_octets c))
+
+pub ruleset fixed_part = (fixed-written)

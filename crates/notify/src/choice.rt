@@ -13,6 +13,7 @@ use zone::{Block, Store};
 pub type Kinds = [Option<RemovalKind>; zone::RECORDS];
 
 // Whether just one of two collective removals at a's record covers b's, where b is marked. It takes two that differ in b's numbers.
+#[tactic(auto, using(crate::proofs::Removals::removal_covers), unfolding(crate::specs::Marks::told_apart))]
 fn tells_apart(mark: bool, narrow: RemovalKind, wide: RemovalKind, a: Block, b: Block) -> bool
     requires { (narrow ≢ RemovalKind.Single) × (wide ≢ RemovalKind.Single) }
     ensures { result ≡ told_apart mark (removal_at narrow (rec_of a.entry.octets.now)) (removal_at wide (rec_of a.entry.octets.now)) (key_of (rec_of b.entry.octets.now)) }
@@ -24,6 +25,7 @@ fn tells_apart(mark: bool, narrow: RemovalKind, wide: RemovalKind, a: Block, b: 
 }
 
 // Whether two collective removals at a's record cover the same of the marked records.
+#[tactic(auto, using(crate::proofs::Choices::agreed))]
 fn alike(narrow: RemovalKind, wide: RemovalKind, a: Block, old: Store, gone: &Marks) -> bool
     requires { (narrow ≢ RemovalKind.Single) × (wide ≢ RemovalKind.Single) }
     ensures { result ≡ are_alike (marked gone.now (records_in old.entry)) (removal_at narrow (rec_of a.entry.octets.now)) (removal_at wide (rec_of a.entry.octets.now)) }
@@ -40,6 +42,7 @@ fn alike(narrow: RemovalKind, wide: RemovalKind, a: Block, old: Store, gone: &Ma
 }
 
 // The kind of the removal that 01 fixes for a's record, where the marked records of the old store leave the view.
+#[tactic(auto, using(crate::proofs::Choices::chosen_kind))]
 fn chosen(a: Block, old: Store, gone: &Marks, new: Store) -> RemovalKind
     ensures { result ≡ kind_of (chosen_at (records_in new.entry) (marked gone.now (records_in old.entry)) (rec_of a.entry.octets.now)) }
 {

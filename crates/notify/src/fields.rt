@@ -66,6 +66,7 @@ pub fn removal(kind: RemovalKind, b: Block<'_>) -> Fields<'_>
 }
 
 // Type, class, TTL and RDLEN.
+#[tactic(auto, using(crate::proofs::Writing::fixed_part))]
 fn write_fixed(out: &mut [u8], at: usize, fields: Fields)
     requires { (at + 10 < 2 ^ 64) × (length fields.rdata.now < 2 ^ 16) }
     ensures { out.new ≡ sets out.old at (octets 2 fields.entry.rrtype ++ (octets 2 fields.entry.rrclass ++ (octets 4 fields.entry.ttl ++ octets 2 (length fields.entry.rdata.now)))) }
@@ -76,7 +77,8 @@ fn write_fixed(out: &mut [u8], at: usize, fields: Fields)
     wire::write_field(out, at + 8, fields.rdata.len() as u16);
 }
 
-// A change from a place on, if there is one; the place behind it.
+// A change from a place on, if there is one; the place behind it. The memory and the place go by themselves: a value that held both
+// would owe in each clause that its reference is still the same one.
 pub fn write(out: &mut [u8], at: usize, change: Option<Fields>) -> usize
     requires { (at + room < 2 ^ 64) × AllShort change }
     ensures { Step room out.old at (given_octets change.entry) out.new result }

@@ -30,6 +30,7 @@ pub fn for_each<T: Copy, F: Fn(usize) -> T>(store: Store, none: T, value: F) -> 
 }
 
 // Whether a block's record stands at a place of a store.
+#[tactic(auto, using(crate::proofs::Lookups::standing))]
 fn stands_at(store: Store, place: usize, b: Block) -> bool
     ensures { result ≡ held (key_of (rec_of b.entry.octets.now)) (take 1 (drop place (records_in store.entry))) }
 {
@@ -37,6 +38,7 @@ fn stands_at(store: Store, place: usize, b: Block) -> bool
 }
 
 // Whether a store has a block's record. The place where it should stand is looked at first.
+#[tactic(auto, using(crate::proofs::Lookups::record_held))]
 fn is_held(store: Store, place: usize, b: Block) -> bool
     ensures { result ≡ held (key_of (rec_of b.entry.octets.now)) (records_in store.entry) }
 {
@@ -44,6 +46,7 @@ fn is_held(store: Store, place: usize, b: Block) -> bool
 }
 
 // Whether a store has a block's record with the block's TTL.
+#[tactic(auto, using(crate::proofs::Lookups::ttl_held))]
 fn has_ttl(store: Store, b: Block) -> bool
     ensures { result ≡ has_ttl (find (key_of (rec_of b.entry.octets.now)) (records_in store.entry)) (rec_of b.entry.octets.now).ttl }
 {
@@ -54,6 +57,7 @@ fn has_ttl(store: Store, b: Block) -> bool
 }
 
 // Whether one of a session's subscriptions matches a block's record.
+#[tactic(auto, using(crate::proofs::Lookups::record_wanted))]
 fn is_wanted(subs: Subscriptions, b: Block) -> bool
     ensures { result ≡ wanted_by (subscriptions_in subs.entry) (rec_of b.entry.octets.now) }
 {
@@ -65,6 +69,7 @@ fn is_wanted(subs: Subscriptions, b: Block) -> bool
 }
 
 // Whether a subscription to a question matches a block's record.
+#[tactic(auto, using(crate::proofs::Lookups::record_matched))]
 fn matches(question: Question, b: Block) -> bool
     ensures { result ≡ matching (subscription_for 0 question.entry) (rec_of b.entry.octets.now) }
 {
@@ -73,7 +78,7 @@ fn matches(question: Question, b: Block) -> bool
 }
 
 // The records of the old store that the new one doesn't have. Those that stay keep their order, so the next of them should
-// stand behind the last: no promise rests on where is looked first.
+// stand behind the last: no promise rests on where is looked first. The loop is its own, since that place changes on the way.
 pub fn departed(old: Store, new: Store) -> Marks
     ensures { marked result (records_in old.entry) ≡ leaving (records_in old.entry) (records_in new.entry) }
 {

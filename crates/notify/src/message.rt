@@ -33,6 +33,7 @@ fn kind_covers(kind: Option<RemovalKind>, e: Block, b: Block) -> bool
 }
 
 // Whether no removal of an earlier record covers record i.
+#[tactic(auto, using(crate::proofs::Heads::first_removal))]
 fn is_first(old: Store, kinds: &Kinds, i: usize) -> bool
     requires { i < min old.count max_records }
     ensures { result ≡ is_head (removals_of kinds.now (take i (records_in old.entry))) (rec_of (block_at old.entry.area.now i)) }

@@ -45,6 +45,7 @@ pub fn same_numbers(kind: RemovalKind, a: Block, b: Block) -> bool
 }
 
 // Whether the removal of a kind at a's record covers b's. Numbers are looked at before names.
+#[tactic(auto, using(crate::proofs::Removals::removal_covers))]
 pub fn covers(kind: RemovalKind, a: Block, b: Block) -> bool
     ensures { result ≡ is_covered (removal_at kind (rec_of a.entry.octets.now)) (key_of (rec_of b.entry.octets.now)) }
 {
@@ -55,6 +56,7 @@ pub fn covers(kind: RemovalKind, a: Block, b: Block) -> bool
 }
 
 // The widest kind up to one whose removal at a's record spares b's, or Single.
+#[tactic(auto, using(crate::proofs::Removals::removal_spares))]
 fn sparing(most: RemovalKind, a: Block, b: Block) -> RemovalKind
     ensures { result ≡ narrowed most (rec_of a.entry.octets.now) (rec_of b.entry.octets.now) }
 {
@@ -66,6 +68,7 @@ fn sparing(most: RemovalKind, a: Block, b: Block) -> RemovalKind
 }
 
 // The kind of the widest true removal: the widest that spares each record of a store.
+#[tactic(auto, using(crate::proofs::Removals::widest_removal))]
 pub fn widest(a: Block, store: Store) -> RemovalKind
     ensures { result ≡ kind_of (widest_true (records_in store.entry) (rec_of a.entry.octets.now)) }
 {
