@@ -1,6 +1,6 @@
 // A session's subscriptions in lent memory: blocks of one size, `count` of which hold one each, in the order in which they
 // came. A block: message ID, type and class, 16 bits each; the length of the name, one octet; the name.
-ghost use Rattle.std.specs.Prelude.{◌+◌, ◌-◌, ◌≤◌, ◌<◌, ◌≡◌, Bool, ◌∷◌, ◌++◌, length, position, eqb};
+ghost use Rattle.std.specs.Prelude.{ℕ, ◌+◌, ◌-◌, ◌≤◌, ◌<◌, ◌≡◌, Bool, List, ◌∷◌, ◌++◌, length, position, eqb};
 ghost use Rattle.std.proofs.lemmas.List.Edits.{sets};
 ghost use Rattle.wire.specs.Field.{octets};
 ghost use Rattle.wire.specs.Name.{max_name};
@@ -97,10 +97,10 @@ impl<'a> Subscriptions<'a> {
         self.count.min(SUBSCRIPTIONS)
     }
 
-    // Whether there are as many as there may be.
+    // Whether there are as many as there may be, whatever the memory holds.
     #[tactic(auto, using(crate::proofs::Table::length_subscriptions_of), unfolding(crate::specs::Subscriptions::is_full))]
     pub fn is_full(self) -> bool
-        ensures { result ≡ is_full (subscriptions_in self.entry) }
+        ensures { (area : List ℕ) → result ≡ is_full (subscriptions_of self.entry.count area) }
     {
         SUBSCRIPTIONS <= self.count
     }
