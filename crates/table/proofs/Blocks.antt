@@ -270,3 +270,10 @@ module _ (a : List ℕ) (to from n : ℕ) (b : List ℕ) (i : ℕ) (m : Moved a 
 
   pub moved_all : n ≤ i → b ≡ sets a to (part a from n)
   moved_all h = let e : i ≡ n = omega (arith, m.few) in m.here ∙ ap (λ (j : ℕ). sets a to (part a from j)) e
+
+-- The code's steps: `part`, `text`, `slide`.
+pub ruleset parting = (part-past, part-rest, part-to)
+
+pub ruleset texts = (text-past, text-there)
+
+pub ruleset sliding = (slid-up, slid-past, slid-down, slid-clipped)
