@@ -5,7 +5,7 @@
 mod respond;
 
 use input::{Source, held_line, idle, next_line};
-use respond::respond;
+use respond::{Areas, respond};
 use server::{Name, Server, start};
 use std::io;
 use table::part;
@@ -32,15 +32,18 @@ fn replay(rt: &impl Print, source: &mut impl Source, start: Server, zone: &Name)
             break;
         };
         p = next;
+        let areas = Areas {
+            first: &mut first,
+            second: &mut second,
+            s0: &mut s0,
+            s1: &mut s1,
+            s2: &mut s2,
+            s3: &mut s3,
+        };
         let r = respond(
             server,
             zone,
-            &mut first,
-            &mut second,
-            &mut s0,
-            &mut s1,
-            &mut s2,
-            &mut s3,
+            areas,
             held_line(p, &line),
             &mut bytes,
             &mut out,

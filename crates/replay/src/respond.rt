@@ -3,14 +3,15 @@ ghost use Rattle.std.specs.Prelude.{◌≡◌, true, Some};
 ghost use Rattle.std.proofs.Math.Pow.{are_bytes};
 ghost use Rattle.script.specs.Line.{octets_in};
 ghost use Rattle.script.specs.Code.{command_line};
-ghost use Rattle.server.specs.Memory.{memory_of, state_of};
+ghost use Rattle.server.specs.Memory.{state_of};
 ghost use Rattle.transcript.specs.Responses.{step_of, response_to, Tells};
+ghost use Rattle.replay.specs.Lent.{memory_lent, memory_left};
 ghost use Rattle.replay.specs.Performing.{Performs};
 
 use script::{Bytes, Command, read_line};
 use server::{Name, Outcome, Server, close, open, tick};
 use server_batch::batch;
-use server_message::message;
+use server_message::{Stores, Tables, message};
 use service::SessionNumber;
 use table::part;
 use transcript::{Output, Text, write_response};
@@ -22,56 +23,57 @@ pub struct Response {
     pub length: usize,
 }
 
+// What is lent from line to line beside the zone's name: the two areas for records, and each session's subscriptions.
+#[derive(Drop)]
+pub struct Areas<'a> {
+    pub first: &'a mut zone::Area,
+    pub second: &'a mut zone::Area,
+    pub s0: &'a mut session::Area,
+    pub s1: &'a mut session::Area,
+    pub s2: &'a mut session::Area,
+    pub s3: &'a mut session::Area,
+}
+
 // Makes the call that a line is.
 fn perform(
     server: Server,
     zone: &Name,
-    first: &mut zone::Area,
-    second: &mut zone::Area,
-    s0: &mut session::Area,
-    s1: &mut session::Area,
-    s2: &mut session::Area,
-    s3: &mut session::Area,
+    areas: Areas<'_>,
     command: Command,
     bytes: &Bytes,
     out: &mut Output,
 ) -> Outcome
-    ensures { let before = memory_of zone.now first.old second.old s0.old s1.old s2.old s3.old in
-        let after = memory_of zone.now first.new second.new s0.new s1.new s2.new s3.new in
+    ensures { let before = memory_lent zone.now areas.entry in
+        let after = memory_left zone.now areas.exit in
         let line = command_line (Some command) bytes.now in
         (small : are_bytes (octets_in line) ≡ true)
         → Performs server result after out.new (step_of (state_of server before) out.old line small) }
 {
+    let Areas {
+        first,
+        second,
+        s0,
+        s1,
+        s2,
+        s3,
+    } = areas;
     match command {
         Command::Open(t) => open(server, t),
         Command::Close(t, s) => close(server, t, SessionNumber(s)),
-        Command::Message(t, s, n) => message(
-            server,
-            zone,
-            first,
-            second,
-            s0,
-            s1,
-            s2,
-            s3,
-            t,
-            SessionNumber(s),
-            part(bytes, 0, n),
-            out,
-        ),
-        Command::Batch(t, n) => batch(
-            server,
-            zone,
-            first,
-            second,
-            s0,
-            s1,
-            s2,
-            s3,
-            t,
-            part(bytes, 0, n),
-            out,
-        ),
+        Command::Message(t, s, n) => {
+            let stores = Stores {
+                name: zone,
+                first,
+                second,
+            };
+            let tables = Tables { s0, s1, s2, s3 };
+            let m = part(bytes, 0, n);
+            message(server, stores, tables, t, SessionNumber(s), m, out)
+        }
+        Command::Batch(t, n) => {
+            let edits = part(bytes, 0, n);
+            batch(server, zone, first, second, [s0, s1, s2, s3], t, edits, out)
+        }
         Command::Tick(t) => tick(server, t),
     }
 }
@@ -79,19 +81,14 @@ fn perform(
 pub fn respond(
     server: Server,
     zone: &Name,
-    first: &mut zone::Area,
-    second: &mut zone::Area,
-    s0: &mut session::Area,
-    s1: &mut session::Area,
-    s2: &mut session::Area,
-    s3: &mut session::Area,
+    areas: Areas<'_>,
     line: &[u8],
     bytes: &mut Bytes,
     out: &mut Output,
     text: &mut Text,
 ) -> Response
-    ensures { let before = memory_of zone.now first.old second.old s0.old s1.old s2.old s3.old in
-        let after = memory_of zone.now first.new second.new s0.new s1.new s2.new s3.new in
+    ensures { let before = memory_lent zone.now areas.entry in
+        let after = memory_left zone.now areas.exit in
         Tells server result.server after out.new text.old text.new result.length
         (response_to (state_of server before) out.old line.now) }
 {
@@ -101,9 +98,7 @@ pub fn respond(
             length: write_response(None, None, out, text),
         };
     };
-    let done = perform(
-        server, zone, first, second, s0, s1, s2, s3, command, bytes, out,
-    );
+    let done = perform(server, zone, areas, command, bytes, out);
     Response {
         server: done.server,
         length: write_response(Some(command), Some(done.answer), out, text),

@@ -1,36 +1,22 @@
 -- `perform`: line by line, what its call promises.
-use Rattle.server.specs.Memory.{memory_of}
+use Rattle.replay.specs.Lent.{memory_lent}
 use Rattle.replay.proofs.Performing.{opened, closed, heard, edited, ticked}
 use Rattle.replay.proofs.respond.perform.Goals as goal
+use Rattle.replay.proofs.respond.perform.Goals.{in-Open, in-Close, in-Message, in-Batch, in-Tick}
 
-pub returns-in-Open : goal.returns-in-Open
-returns-in-Open c =
+pub returns : goal.returns
+returns c =
     let a = c.args in
-    let m = memory_of a.zone.now a.first.now a.second.now a.s0.now a.s1.now a.s2.now a.s3.now in
-    opened a.server m a.bytes.now a.out.now a.command _ _ c.in-Open.is c.«open».ensures
-
-pub returns-in-Close : goal.returns-in-Close
-returns-in-Close c =
-    let a = c.args in
-    let m = memory_of a.zone.now a.first.now a.second.now a.s0.now a.s1.now a.s2.now a.s3.now in
-    closed a.server m a.bytes.now a.out.now a.command _ _ _ c.in-Close.is c.close.ensures
-
-pub returns-in-Message : goal.returns-in-Message
-returns-in-Message c =
-    let a = c.args in
-    let m = memory_of a.zone.now a.first.now a.second.now a.s0.now a.s1.now a.s2.now a.s3.now in
-    heard a.server m (memory_of a.zone.now a.first.now a.second.now _ _ _ _) a.bytes.now a.out.now _ a.command _ _ _ _ c.in-Message.is _ c.part.ensures
-    c.message.ensures.serves
-
-pub returns-in-Batch : goal.returns-in-Batch
-returns-in-Batch c =
-    let a = c.args in
-    let m = memory_of a.zone.now a.first.now a.second.now a.s0.now a.s1.now a.s2.now a.s3.now in
-    edited a.server m (memory_of a.zone.now _ _ a.s0.now a.s1.now a.s2.now a.s3.now) a.bytes.now a.out.now _ a.command _ _ _ c.in-Batch.is _ c.part-in-Batch.ensures
-    c.batch.ensures.serves
-
-pub returns-in-Tick : goal.returns-in-Tick
-returns-in-Tick c =
-    let a = c.args in
-    let m = memory_of a.zone.now a.first.now a.second.now a.s0.now a.s1.now a.s2.now a.s3.now in
-    ticked a.server m a.bytes.now a.out.now a.command _ _ c.in-Tick.is c.tick.ensures
+    let m = memory_lent a.zone.now a.areas in
+    elim c.match-command.branch [
+      | in-Open w ↦ rw (w.result-is, w.out-is, w.first-is, w.second-is, w.s0-is, w.s1-is, w.s2-is, w.s3-is)
+          (opened a.server m a.bytes.now a.out.now a.command _ _ w.in-Open.is w.«open».ensures)
+      | in-Close w ↦ rw (w.result-is, w.out-is, w.first-is, w.second-is, w.s0-is, w.s1-is, w.s2-is, w.s3-is)
+          (closed a.server m a.bytes.now a.out.now a.command _ _ _ w.in-Close.is w.close.ensures)
+      | in-Message w ↦ rw (w.result-is, w.out-is, w.first-is, w.second-is, w.s0-is, w.s1-is, w.s2-is, w.s3-is)
+          (heard a.server m _ a.bytes.now a.out.now _ a.command _ _ _ _ w.in-Message.is _ w.part-m.ensures w.message.ensures.serves)
+      | in-Batch w ↦ rw (w.result-is, w.out-is, w.first-is, w.second-is, w.s0-is, w.s1-is, w.s2-is, w.s3-is)
+          (edited a.server m _ a.bytes.now a.out.now _ a.command _ _ _ w.in-Batch.is _ w.part-edits.ensures w.batch.ensures.serves)
+      | in-Tick w ↦ rw (w.result-is, w.out-is, w.first-is, w.second-is, w.s0-is, w.s1-is, w.s2-is, w.s3-is)
+          (ticked a.server m a.bytes.now a.out.now a.command _ _ w.in-Tick.is w.tick.ensures)
+    ]
