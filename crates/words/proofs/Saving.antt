@@ -5,13 +5,12 @@ use native.Mathlib.Omega.{arith}
 use native.Mathlib.Nat.{add-zero, zero-add}
 use native.Mathlib.Nat.{mod-eq_of_lt}
 use mathlib.Core.Bool.{Bool, true, false, cond}
-use mathlib.Core.List.{List, [], ◌∷◌, ◌++◌}
-use Rattle.std.proofs.lemmas.List.{append_assoc, drop_all, drop-drop}
+use mathlib.Core.List.{List, [], ◌∷◌}
+use Rattle.std.proofs.lemmas.List.{drop_all}
 use mathlib.Core.Path.{◌≡◌, refl, sym, ap, subst, ◌∙◌}
-use borrow.Rule.Slice.PartMut.{put_mid}
 use borrow.Author.Count.{below_none, below_more}
 use native.Mathlib.Numerals.{add-one}
-use lib.ListN.{length, get_or, set, take, drop, length-set}
+use lib.ListN.{length, get_or, set, take, length-set}
 use lib.Seq.{sets, sets-eq, get_or-set_same, get_or-set_other}
 use lib.Dec.{eqb}
 use borrow.Author.Tests.{eqb-true, eqb-false, ne_eqb}
@@ -77,13 +76,18 @@ get_d-sets-in l i (v ∷ vs) (suc j) h k =
     ap (λ (n : ℕ). get_or (sets (set l i v) (suc i) vs) n 0) e
     ∙ get_d-sets-in (set l i v) (suc i) vs j (omega arith) (omega (arith, length-set l i v))
 
-pub stored : (w : List ℕ) (at k : ℕ) (x : Session) (six : List ℕ) → at + 6 ≤ length w → k ≡ 6 → six ≡ session_words x [] → Timed x
-    → Stored x at w (put_mid at k w six)
-stored w at k x six h p e t = record {
-  words = rw (p, e)
-      (ap (λ (r : List ℕ). take at w ++ (session_words x [] ++ r)) (drop-drop 6 at w) ∙ sym (append_assoc (take at w) (session_words x []) (drop (at + 6) w)) ∙ sym (sets-eq (session_words x []) w at h));
-  timed = t;
-}
+-- Stores one behind the other are a run.
+pub stored : (w : List ℕ) (at : ℕ) (x : Session) (six : List ℕ) → six ≡ session_words x [] → Timed x
+    → Stored x at w
+    (set (set (set (set (set (set w at (get_or six 0 0)) (at + 1) (get_or six 1 0)) (at + 2) (get_or six 2 0)) (at + 3) (get_or six 3 0))
+    (at + 4) (get_or six 4 0)) (at + 5) (get_or six 5 0))
+stored w at x six p t =
+    let e1 : at + 1 ≡ suc at = omega arith in
+    let e2 : at + 2 ≡ suc (suc at) = omega arith in
+    let e3 : at + 3 ≡ suc (suc (suc at)) = omega arith in
+    let e4 : at + 4 ≡ suc (suc (suc (suc at))) = omega arith in
+    let e5 : at + 5 ≡ suc (suc (suc (suc (suc at)))) = omega arith in
+    record { words = rw (p, e1, e2, e3, e4, e5); timed = t }
 
 -- Six words are a session.
 session-by : (w v : List ℕ) (b c : ℕ) → ((j : ℕ) → j < 6 → get_or w (b + j) 0 ≡ get_or v (c + j) 0) → session_in w b ≡ session_in v c

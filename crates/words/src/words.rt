@@ -14,8 +14,6 @@ pub const WORDS: usize = 28;
 // Four words of the server, then six of each session.
 pub type Words = [u64; WORDS];
 
-type SessionWords = [u64; 6];
-
 // 32 bits of a word count.
 fn timeout_of(word: u64) -> u32
     ensures { result ≡ timeout word }
@@ -94,7 +92,7 @@ pub fn load_context(words: &Words, i: u64) -> Context
 }
 
 // A session's six words.
-fn session_words(x: Session) -> SessionWords
+fn session_words(x: Session) -> [u64; 6]
     ensures words { result ≡ session_words x [] }
     ensures timed { Timed x }
 {
@@ -109,12 +107,18 @@ fn session_words(x: Session) -> SessionWords
     ]
 }
 
-// A session's six words from a place on.
+// A session's six words from a place on. One by one: as an array that is copied they cost a message twenty instructions more.
 fn store_session(words: &mut [u64], at: usize, x: Session)
     requires { at + 6 ≤ length words.old }
     ensures { Stored x at words.old words.new }
 {
-    words[at..at + 6].copy_from_slice(&session_words(x));
+    let [live, active, alive, inactivity, keepalive, count] = session_words(x);
+    words[at] = live;
+    words[at + 1] = active;
+    words[at + 2] = alive;
+    words[at + 3] = inactivity;
+    words[at + 4] = keepalive;
+    words[at + 5] = count;
 }
 
 pub fn save(words: &mut Words, server: Server)
