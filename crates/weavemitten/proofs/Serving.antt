@@ -30,22 +30,19 @@ use Rattle.weavemitten.specs.Calls.{held_by, Keeps, Returns, ReturnsWith, Begins
 
 -- ---- what is kept
 
-module _ (w : List ℕ) (u : Outcome) (r : ℕ) (e : r ≡ answer_number (answer_of u.answer)) where
-  pub kept-saved : r ≤ last_accepted → {w' : List ℕ} → Saved u.server w' → Keeps w w' u r
-  kept-saved h x = record { answer = e; held = λ g. x.server; unchanged = λ g. absurd (omega arith) }
+module _ (w w' : List ℕ) (r : ℕ) (same : last_accepted < r → w' ≡ w) where
+  pub kept-saved : (u : Outcome) → r ≡ answer_number (answer_of u.answer) → (r ≤ last_accepted → Saved u.server w') → Keeps w w' u r
+  kept-saved u e x = record { answer = e; held = λ g. (x g).server; unchanged = same }
 
-  pub kept_same : last_accepted < r → Keeps w w u r
-  kept_same h = record { answer = e; held = λ g. absurd (omega arith); unchanged = λ g. refl }
-
--- The same of a message, of which its session is kept.
-module _ (w : List ℕ) (t i : ℕ) (h : Heard) (r : ℕ) (e : r ≡ answer_number (answer_of h.answer)) where
-  pub kept-session : r ≤ last_accepted → {w' : List ℕ} → SavedSession t i h.session w w' → Keeps w w' (heard_in (server_of w) t i h) r
+  -- The same of a message, of which its session is kept.
+  pub kept-session : (t i : ℕ) (h : Heard) → r ≡ answer_number (answer_of h.answer) → (r ≤ last_accepted → SavedSession t i h.session w w')
+      → Keeps w w' (heard_in (server_of w) t i h) r
   unfolding kept_by
-  kept-session g x =
+  kept-session t i h e x =
       record {
         answer = e;
-        held = λ k. rw (← e, le-ltb last_accepted r g) x.server;
-        unchanged = λ k. absurd (omega arith);
+        held = λ g. rw (← e, le-ltb last_accepted r g) (x g).server;
+        unchanged = same;
       }
 
 -- The same of a decision, of which the sessions that change are kept.

@@ -1,7 +1,10 @@
 // The calls of the service for a C host: each reads the server's numbers from the lent words, calls the server, and keeps
 // what it gave: a batch all numbers, the others the time and those of the sessions that they change. No answer is 0, and the
 // calls take any words and any octets.
-ghost use Rattle.std.specs.Prelude.{[]};
+ghost use Rattle.std.specs.Prelude.{[], ◌≡◌, ◌≤◌, ◌<◌};
+ghost use Rattle.std.specs.Fn.{FnOnceReturnsAtMut};
+ghost use Rattle.service.specs.Answer.{answer_number};
+ghost use Rattle.server.specs.Answers.{answer_of, last_accepted};
 ghost use Rattle.service.specs.Call.{Bytes, Call, outcome, opens, closes, receives, edits, ticks};
 ghost use Rattle.server.specs.Memory.{Memory, memory_of};
 ghost use Rattle.server.specs.Answers.{heard_in};
@@ -10,38 +13,26 @@ ghost use Rattle.words.specs.Words.{server_of};
 ghost use Rattle.weavemitten.specs.Calls.{held_by, Keeps, Begins, Returns, ReturnsWith, ReturnsOn};
 
 use server::{
-    Decision, Heard, LAST_ACCEPTED, Name, Outcome, answer_number, decide_close, decide_open,
-    decide_tick, decision_answer, refusal_number, start,
+    Answer, Decision, LAST_ACCEPTED, Name, answer_number, decide_close, decide_open, decide_tick,
+    decision_answer, refusal_number, start,
 };
 use server_batch::batch;
 use server_message::{Stores, Tables, hear};
 use service::SessionNumber;
 use words::{Values, Words, load, load_context, put, save, save_decision, save_session};
 
-// The numbers of an outcome are kept, unless it is a refusal.
-fn keep(words: &mut Words, outcome: Outcome) -> u32
-    ensures { Keeps words.old words.new outcome result }
+// What an answer changes is kept, unless it is a refusal.
+fn keep<F: FnOnce(&mut Words)>(words: &mut Words, answer: Answer, save: F) -> u32
+    requires { F.IsAlwaysCallable save }
+    ensures number { result ≡ answer_number (answer_of answer) }
+    ensures saved { result ≤ last_accepted → FnOnceReturnsAtMut F.FnOnce save words.old tt words.new }
+    ensures unchanged { last_accepted < result → words.new ≡ words.old }
 {
-    let answer = outcome.answer;
     let number = answer_number(answer);
     if number <= LAST_ACCEPTED {
-        let server = outcome.server;
-        save(words, server);
+        save(words);
     }
     number
-}
-
-// Of a message the time and its session's numbers are kept, unless it is refused.
-fn keep_session(words: &mut Words, t: u64, i: u64, heard: Heard) -> u32
-    ensures { Keeps words.old words.new (heard_in (server_of words.old) t i heard) result }
-{
-    let answer = heard.answer;
-    let told = answer_number(answer);
-    if told <= LAST_ACCEPTED {
-        let x = heard.session;
-        save_session(words, t, i, x);
-    }
-    told
 }
 
 // Of a decision the time and the words of the sessions that change are kept, unless it is a refusal.
@@ -126,7 +117,9 @@ pub extern "C" fn weavemitten_server_message(
         out,
     );
     put(values, heard.answer);
-    keep_session(words, time, session, heard)
+    keep(words, heard.answer, |words| {
+        save_session(words, time, session, heard.session)
+    })
 }
 
 #[unsafe(no_mangle)]
@@ -155,7 +148,7 @@ pub extern "C" fn weavemitten_server_batch(
     let tables = [s0, s1, s2, s3];
     let outcome = batch(server, zone, first, second, tables, time, bytes, out);
     put(values, outcome.answer);
-    keep(words, outcome)
+    keep(words, outcome.answer, |words| save(words, outcome.server))
 }
 
 #[unsafe(no_mangle)]
