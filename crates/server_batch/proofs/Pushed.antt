@@ -46,13 +46,14 @@ use Rattle.service.proofs.Checks.{checks-passed}
 use Rattle.service.specs.declared.refusal.Refusal.{Refusal}
 use Rattle.service.specs.declared.refusal.Refusal.TheVariants.{Batch}
 use Rattle.server.specs.declared.answer.Answer.{Answer}
+use Rattle.server.specs.declared.answer.Answer.TheVariants.{Done, Sent}
 use Rattle.server.specs.declared.answer.Outcome.{Outcome}
 use Rattle.server.specs.declared.state.Session.{Session}
 use Rattle.server.specs.declared.state.Server.{Server}
 use Rattle.server.specs.Memory.{Memory, memory_of, holding, slot_of, slots_of, state_of}
 use Rattle.server.specs.Checks.{refused_by}
 use Rattle.server.specs.Answers.{Gives, answer_of, refusing}
-use Rattle.server_batch.specs.Pushing.{Tells, Changed, TellsAll, Announces, Edits, told_of, committed_of, put_other, slots_at, areas_in}
+use Rattle.server_batch.specs.Pushing.{Tells, Changed, TellsAll, Announces, Edits, told_of, told_in, committed_of, put_other, slots_at, areas_in}
 use Rattle.server.proofs.States.{slot-live, slot-dead}
 use Rattle.server.proofs.Outcomes.{gives-passed}
 
@@ -158,7 +159,7 @@ told-refuses-not ws x e = by (all_of (λ (w : List ℕ). eqb (length w) 0) ws) e
     by true e = let z : ◌≡◌ {A = ℕ} 0 1 = cc in omega arith
     by false e = let z : ◌≡◌ {A = ℕ} 0 1 = cc in omega arith
 
-pub announces : (s : Server) (t n : ℕ) (old new : List Record) (slots : List Slot) (o o' counts : List ℕ)
+announces : (s : Server) (t n : ℕ) (old new : List Record) (slots : List Slot) (o o' counts : List ℕ)
     → TellsAll old new slots o o' counts → (z : Server) → z ≡ committed_of t n s → (x : Answer) → answer_of x ≡ told_of counts
     → Announces s t n old new slots o o' (record { server = z; answer = x })
 announces s t n old new slots o o' counts w z p x q =
@@ -167,6 +168,14 @@ announces s t n old new slots o o' counts w z p x q =
       answer = q ∙ ap told_of w.counted ∙ told-counts (map (push_to old new) slots);
       output = w.output;
     }
+
+told-in : (ns : List ℕ) → answer_of (told_in ns) ≡ told_of ns
+unfolding told_in told_of answer_of
+told-in ns = by (all_of (λ (n : ℕ). eqb n 0) ns)
+  where
+    by : (b : Bool) → answer_of (cond b Done (Sent ns)) ≡ cond b done (sent ns)
+    by true = refl
+    by false = refl
 
 -- ---- the state after it
 
@@ -241,15 +250,17 @@ module _ (s : Server) (t : ℕ) (zone old new : List ℕ) (l : List (List ℕ)) 
             (record { next = state-other s new m; answer = refl; output = refl; unchanged = λ y w. refl });
       }
 
-  pub edits-stored : (n : ℕ) → x ≡ Ok n → (r : Outcome) (o' : List ℕ)
-      → Announces s t n (records_of s.records old) (records_of n new) (slots_at s l) o o' r
-      → Edits s t zone old new l bytes o o' r
-  edits-stored n h r o' w =
+  pub edits-stored : (n : ℕ) → x ≡ Ok n → (counts o' : List ℕ) → TellsAll (records_of s.records old) (records_of n new) (slots_at s l) o o' counts
+      → Edits s t zone old new l bytes o o' (record { server = committed_of t n s; answer = told_in counts })
+  edits-stored n h counts o' w =
+      let r : Outcome = record { server = committed_of t n s; answer = told_in counts } in
+      let v : Announces s t n (records_of s.records old) (records_of n new) (slots_at s l) o o' r =
+      announces s t n (records_of s.records old) (records_of n new) (slots_at s l) o o' counts w (committed_of t n s) refl (told_in counts) (told-in counts) in
       record {
         gives = λ first second q.
             let m = memory_lent zone first second l in
             rw (batch-stored (state_of s m) t bytes o (records_of n new) (edited-at first second q ∙ ap (λ (y : Result ℕ BatchFault). edited_of y new) h))
-            (announced-gives s t n o o' r new m (subst (λ (z : List ℕ). Announces s t n (records_of s.records z) (records_of n new) (slots_at s l) o o' r) (sym q) w));
+            (announced-gives s t n o o' r new m (subst (λ (z : List ℕ). Announces s t n (records_of s.records z) (records_of n new) (slots_at s l) o o' r) (sym q) v));
       }
 
 -- ---- the call

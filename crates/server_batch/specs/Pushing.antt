@@ -14,7 +14,10 @@ use Rattle.service.specs.Answer.{done, sent}
 use Rattle.service.specs.Answer as Service
 use Rattle.service.specs.Call.{push_to, told, written, batch_outcome}
 use Rattle.service.specs.declared.refusal.Refusal.{Refusal}
+use Rattle.server.specs.declared.answer.Answer.{Answer}
+use Rattle.server.specs.declared.answer.Answer.TheVariants.{Done, Sent}
 use Rattle.server.specs.declared.answer.Outcome.{Outcome}
+use Rattle.server_batch.specs.declared.pushing.Stored.{Stored}
 use Rattle.server.specs.declared.state.Server.{Server}
 use Rattle.server.specs.Memory.{Memory, memory_of, holding, slot_of, state_of}
 use Rattle.server.specs.Answers.{Gives, answer_of, refusing}
@@ -54,6 +57,10 @@ pub record TellsAll (old new : List Record) (slots : List Slot) (o o' : List ℕ
 unfoldable pub told_of : List ℕ → Service.Answer
 told_of ns = cond (all_of (λ (n : ℕ). eqb n 0) ns) done (sent ns)
 
+-- The same as the code has it.
+unfoldable pub told_in : List ℕ → Answer
+told_in ns = cond (all_of (λ (n : ℕ). eqb n 0) ns) Done (Sent ns)
+
 -- The other area holds the store.
 unfoldable pub committed_of : ℕ → ℕ → Server → Server
 committed_of t records s = record s { latest = t; records = records; second = not s.second }
@@ -76,10 +83,10 @@ put_other s a m =
       s3 = m.s3;
     }
 
--- What comes of a refusal: the numbers as they came.
-abbrev pub given : Server → Result Outcome Refusal → Outcome
-given s (Ok u) = u
-given s (Err x) = refusing s x
+-- The numbers and the answer by what a batch came to; a refusal hands back the very numbers.
+abbrev pub given : Server → ℕ → Result Stored Refusal → Outcome
+given s t (Ok x) = record { server = committed_of t x.records s; answer = told_in x.counts }
+given s t (Err x) = refusing s x
 
 -- A batch: `old` is the area that holds the store, `new` what the other one became; l has each session's area.
 pub record Edits (s : Server) (t : ℕ) (zone old new : List ℕ) (l : List (List ℕ)) (bytes o o' : List ℕ) (r : Outcome) : Type 0 where

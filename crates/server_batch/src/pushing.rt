@@ -5,8 +5,8 @@ ghost use Rattle.service.specs.Call.{Bytes, Call, push_to, edits};
 ghost use Rattle.service.specs.State.{max_sessions};
 ghost use Rattle.service.specs.Checks.{output_size, least_output};
 ghost use Rattle.server.specs.Memory.{slot_of};
-ghost use Rattle.server.specs.Answers.{answer_of, Serves};
-ghost use Rattle.server_batch.specs.Pushing.{Tells, Changed, TellsAll, told_of, committed_of, Announces, Edits};
+ghost use Rattle.server.specs.Answers.{Serves};
+ghost use Rattle.server_batch.specs.Pushing.{Tells, Changed, TellsAll, told_in, committed_of, Edits};
 ghost use Rattle.server_batch.specs.Pushing.{slots_at, areas_in, memory_lent, given};
 ghost use Rattle.std.proofs.Math.Pow.{are_bytes};
 
@@ -53,9 +53,9 @@ fn tell_all(server: Server, change: Change<'_>, tables: Tables<'_>, out: &mut [u
 }
 
 // 1 where nothing is written.
-#[tactic(auto, unfolding(crate::specs::Pushing::told_of, server::specs::Answers::answer_of))]
+#[tactic(auto, unfolding(crate::specs::Pushing::told_in))]
 fn told(counts: Counts) -> Answer
-    ensures { answer_of result ≡ told_of counts }
+    ensures { result ≡ told_in counts }
 {
     if counts.iter().all(|n| *n == 0) {
         return Answer::Done;
@@ -79,15 +79,14 @@ fn committed(server: Server, t: u64, records: usize) -> Server
 // What the batch changes is found once, for all sessions.
 fn announced(
     server: Server,
-    t: u64,
     old: Store<'_>,
     new: Store<'_>,
     tables: Tables<'_>,
     out: &mut [u8],
-) -> Outcome
+) -> Counts
     requires { least_output ≤ length out.old }
     ensures { let slots = slots_at server (areas_in tables.entry) in
-        Announces server t new.entry.count (records_in old.entry) (records_in new.entry) slots out.old out.new result }
+        TellsAll (records_in old.entry) (records_in new.entry) slots out.old out.new result }
 {
     let change = Change {
         old,
@@ -95,11 +94,14 @@ fn announced(
         new,
         fresh: &arrived(old, new),
     };
-    let counts = tell_all(server, change, tables, out);
-    Outcome {
-        server: committed(server, t, new.count),
-        answer: told(counts),
-    }
+    tell_all(server, change, tables, out)
+}
+
+// What a batch that is not refused comes to: how many records there are then, and how many bytes for each session.
+#[derive(Clone, Copy)]
+struct Stored {
+    records: usize,
+    counts: Counts,
 }
 
 // From the area that holds the store into the other one, which then holds it. A fault leaves the first as it was.
@@ -112,16 +114,23 @@ fn edit(
     t: u64,
     bytes: &[u8],
     out: &mut [u8],
-) -> Result<Outcome, Refusal>
+) -> Result<Stored, Refusal>
     requires { least_output ≤ length out.old }
-    ensures { Edits server t zone.now old.now new.new (areas_in tables.entry) bytes.now out.old out.new (given server result) }
+    ensures { Edits server t zone.now old.now new.new (areas_in tables.entry) bytes.now out.old out.new (given server t result) }
 {
     let old = Store {
         area: old,
         count: server.records,
     };
-    let count = zone::batch(part(zone, 0, server.zone), bytes, old, new)?;
-    Ok(announced(server, t, old, Store { area: new, count }, tables, out))
+    let records = zone::batch(part(zone, 0, server.zone), bytes, old, new)?;
+    let new = Store {
+        area: new,
+        count: records,
+    };
+    Ok(Stored {
+        records,
+        counts: announced(server, old, new, tables, out),
+    })
 }
 
 // The checks, and then the edits.
@@ -134,13 +143,13 @@ fn checked(
     t: u64,
     bytes: &[u8],
     out: &mut [u8],
-) -> Result<Outcome, Refusal>
+) -> Result<Stored, Refusal>
     ensures { (
         let before = memory_lent zone.now first.old second.old (areas_in tables.entry) in
         let after = memory_lent zone.now first.new second.new (areas_in tables.entry) in
         let call : Bytes → Call = λ lent. edits t lent out.old in
         (small : are_bytes bytes.now ≡ true)
-        → Serves server before (call (record { list = bytes.now; small = small })) (given server result) after out.new) }
+        → Serves server before (call (record { list = bytes.now; small = small })) (given server t result) after out.new) }
 {
     let b = Brought {
         output: Some(out.len() as u64),
@@ -151,6 +160,19 @@ fn checked(
         edit(server, zone, second, first, tables, t, bytes, out)
     } else {
         edit(server, zone, first, second, tables, t, bytes, out)
+    }
+}
+
+// A refusal hands back the very numbers that came in.
+fn concluded(server: Server, t: u64, r: Result<Stored, Refusal>) -> Outcome
+    ensures { result ≡ given server t r }
+{
+    match r {
+        Ok(stored) => Outcome {
+            server: committed(server, t, stored.records),
+            answer: told(stored.counts),
+        },
+        Err(why) => refused(server, why),
     }
 }
 
@@ -172,8 +194,6 @@ pub fn batch(
         → Serves server before (call (record { list = bytes.now; small = small })) result after out.new) }
     ensures small { are_bytes bytes.now ≡ true }
 {
-    match checked(server, zone, first, second, tables, t, bytes, out) {
-        Ok(outcome) => outcome,
-        Err(why) => refused(server, why),
-    }
+    let r = checked(server, zone, first, second, tables, t, bytes, out);
+    concluded(server, t, r)
 }
