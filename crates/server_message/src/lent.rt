@@ -31,7 +31,7 @@ impl<'a> Stores<'a> {
     }
 }
 
-// Each session's subscriptions.
+// Each session's subscriptions. Fields and no array: an array of `&mut`s that is passed on from a parameter got no proof (tried).
 #[derive(Drop)]
 pub struct Tables<'a> {
     pub s0: &'a mut session::Area,

@@ -9,7 +9,8 @@ use server_batch::batch;
 use server_message::{Stores, Tables, message};
 use service::{Refusal, SessionNumber};
 
-// What is lent from call to call beside the zone's name: the two areas for records, and each session's subscriptions.
+// What is lent from call to call beside the zone's name: the two areas for records, and each session's subscriptions, in fields as
+// `server_message::Tables` has them.
 #[derive(Drop)]
 pub struct Areas<'a> {
     pub first: &'a mut zone::Area,

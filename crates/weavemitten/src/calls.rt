@@ -4,10 +4,9 @@
 ghost use Rattle.std.specs.Prelude.{[], ◌≡◌, ◌≤◌, ◌<◌};
 ghost use Rattle.std.specs.Fn.{FnOnceReturnsAtMut};
 ghost use Rattle.service.specs.Answer.{answer_number};
-ghost use Rattle.server.specs.Answers.{answer_of, last_accepted};
 ghost use Rattle.service.specs.Call.{Bytes, Call, outcome, opens, closes, receives, edits, ticks};
 ghost use Rattle.server.specs.Memory.{Memory, memory_of};
-ghost use Rattle.server.specs.Answers.{heard_in};
+ghost use Rattle.server.specs.Answers.{answer_of, last_accepted};
 ghost use Rattle.server.specs.Changes.{decided_by};
 ghost use Rattle.words.specs.Words.{server_of};
 ghost use Rattle.weavemitten.specs.Calls.{held_by, Keeps, Begins, Returns, ReturnsWith, ReturnsOn};
@@ -35,7 +34,8 @@ fn keep<F: FnOnce(&mut Words)>(words: &mut Words, answer: Answer, save: F) -> u3
     number
 }
 
-// Of a decision the time and the words of the sessions that change are kept, unless it is a refusal.
+// Of a decision the time and the words of the sessions that change are kept, unless it is a refusal: a decision says so itself, and no
+// number is tested.
 fn keep_decision(words: &mut Words, t: u64, decision: Decision) -> u32
     ensures { Keeps words.old words.new (decided_by (server_of words.old) t decision) result }
 {

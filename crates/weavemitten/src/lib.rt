@@ -14,6 +14,7 @@ pub use calls::{
 use dso::{Judgment, ReplyCode, asks_for, is_name, judge};
 use wire::same_name;
 
+// Kinds are numbers for C, as the header's `enum weavemitten_kind` has them.
 fn kind_of(judgment: Judgment) -> u32
     ensures { result ≡ kind_of judgment }
 {
@@ -60,6 +61,7 @@ fn compared(a: &[u8], b: &[u8]) -> Option<bool>
     }
 }
 
+// An answer is a number for C, as the header's `enum weavemitten_answer` has it.
 fn answer_number(answer: Option<bool>) -> u32
     ensures { result ≡ answer_number answer }
 {
