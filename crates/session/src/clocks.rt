@@ -69,9 +69,10 @@ impl Clocks {
     pub fn expired(self, subscribed: bool, t: u64) -> bool
         ensures { result ≡ expired_at subscribed t self }
     {
-        let silent = t.saturating_sub(self.alive);
-        let idle = t.saturating_sub(self.active);
-        let limit = LEAST_INACTIVITY.max(2 * u64::from(self.inactivity));
-        2 * u64::from(self.keepalive) <= silent || !subscribed && limit <= idle
+        if 2 * u64::from(self.keepalive) <= t.saturating_sub(self.alive) {
+            return true;
+        }
+        !subscribed
+            && LEAST_INACTIVITY.max(2 * u64::from(self.inactivity)) <= t.saturating_sub(self.active)
     }
 }
