@@ -1,3 +1,2 @@
--- Definitions of the replay program's code: the memory that is lent, and the call that a line makes.
-pub mod Lent
+-- Definitions of the replay program's code: the call that a line makes.
 pub mod Performing

@@ -5,8 +5,9 @@
 mod respond;
 
 use input::{Source, held_line, idle, next_line};
-use respond::{Areas, respond};
+use respond::respond;
 use server::{Name, Server, start};
+use server_message::Areas;
 use std::io;
 use table::part;
 
@@ -16,6 +17,7 @@ use table::part;
 fn replay(rt: &impl Print, source: &mut impl Source, start: Server, zone: &Name) -> io::Result<()> {
     let mut first = [0u8; zone::AREA];
     let mut second = [0u8; zone::AREA];
+    // Four arrays: where each turn took an array of them apart into four `&mut`s, the borrow checker's proof wasn't covered (tried).
     let mut s0 = [0u8; session::AREA];
     let mut s1 = [0u8; session::AREA];
     let mut s2 = [0u8; session::AREA];

@@ -5,13 +5,13 @@ ghost use Rattle.script.specs.Line.{octets_in};
 ghost use Rattle.script.specs.Code.{command_line};
 ghost use Rattle.server.specs.Memory.{state_of};
 ghost use Rattle.transcript.specs.Responses.{step_of, response_to, Tells};
-ghost use Rattle.replay.specs.Lent.{memory_lent, memory_left};
+ghost use Rattle.server_message.specs.Lent.{areas_lent, areas_left};
 ghost use Rattle.replay.specs.Performing.{Performs};
 
 use script::{Bytes, Command, read_line};
 use server::{Name, Outcome, Server, close, open, tick};
 use server_batch::batch;
-use server_message::{Stores, Tables, message};
+use server_message::{Areas, Stores, Tables, message};
 use service::SessionNumber;
 use table::part;
 use transcript::{Output, Text, write_response};
@@ -23,17 +23,6 @@ pub struct Response {
     pub length: usize,
 }
 
-// What is lent from line to line beside the zone's name: the two areas for records, and each session's subscriptions.
-#[derive(Drop)]
-pub struct Areas<'a> {
-    pub first: &'a mut zone::Area,
-    pub second: &'a mut zone::Area,
-    pub s0: &'a mut session::Area,
-    pub s1: &'a mut session::Area,
-    pub s2: &'a mut session::Area,
-    pub s3: &'a mut session::Area,
-}
-
 // Makes the call that a line is.
 fn perform(
     server: Server,
@@ -43,8 +32,8 @@ fn perform(
     bytes: &Bytes,
     out: &mut Output,
 ) -> Outcome
-    ensures { let before = memory_lent zone.now areas.entry in
-        let after = memory_left zone.now areas.exit in
+    ensures { let before = areas_lent zone.now areas.entry in
+        let after = areas_left zone.now areas.exit in
         let line = command_line (Some command) bytes.now in
         (small : are_bytes (octets_in line) ≡ true)
         → Performs server result after out.new (step_of (state_of server before) out.old line small) }
@@ -87,8 +76,8 @@ pub fn respond(
     out: &mut Output,
     text: &mut Text,
 ) -> Response
-    ensures { let before = memory_lent zone.now areas.entry in
-        let after = memory_left zone.now areas.exit in
+    ensures { let before = areas_lent zone.now areas.entry in
+        let after = areas_left zone.now areas.exit in
         Tells server result.server after out.new text.old text.new result.length
         (response_to (state_of server before) out.old line.now) }
 {

@@ -39,3 +39,16 @@ pub struct Tables<'a> {
     pub s2: &'a mut session::Area,
     pub s3: &'a mut session::Area,
 }
+
+// What a caller lends from call to call beside the zone's name: the two areas for records, of which a batch writes the one that
+// doesn't hold the store, and each session's subscriptions. In fields, as `Tables` has them: an array of `&mut`s that is passed on
+// got no proof there; and no `Tables` in it, since a batch takes the four as an array to be read.
+#[derive(Drop)]
+pub struct Areas<'a> {
+    pub first: &'a mut zone::Area,
+    pub second: &'a mut zone::Area,
+    pub s0: &'a mut session::Area,
+    pub s1: &'a mut session::Area,
+    pub s2: &'a mut session::Area,
+    pub s3: &'a mut session::Area,
+}

@@ -5,4 +5,4 @@ mod delivery;
 mod lent;
 
 pub use delivery::{hear, message};
-pub use lent::{Stores, Tables};
+pub use lent::{Areas, Stores, Tables};

@@ -2,4 +2,3 @@
 pub mod Runs
 pub mod Plays
 pub mod Isolation
-pub mod Lent

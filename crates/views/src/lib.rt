@@ -1,25 +1,13 @@
 // Demand 3 stated about the calls' own promises; and calls in code, one after the other, of which it is proved.
 #![tactic(auto)]
 
-ghost use Rattle.views.specs.Lent.{memory_lent, memory_left};
+ghost use Rattle.server_message.specs.Lent.{areas_lent, areas_left};
 ghost use Rattle.views.specs.Plays.{Continues, Plays};
 
 use server::{Name, Outcome, Server, open, start};
 use server_batch::batch;
-use server_message::{Stores, Tables, message};
+use server_message::{Areas, Stores, Tables, message};
 use service::{Refusal, SessionNumber};
-
-// What is lent from call to call beside the zone's name: the two areas for records, and each session's subscriptions, in fields as
-// `server_message::Tables` has them.
-#[derive(Drop)]
-pub struct Areas<'a> {
-    pub first: &'a mut zone::Area,
-    pub second: &'a mut zone::Area,
-    pub s0: &'a mut session::Area,
-    pub s1: &'a mut session::Area,
-    pub s2: &'a mut session::Area,
-    pub s3: &'a mut session::Area,
-}
 
 // What an open, a message and a batch gave.
 #[derive(Clone, Copy)]
@@ -40,8 +28,8 @@ pub fn proceed(
     reply: &mut [u8],
     out: &mut [u8],
 ) -> Ran
-    ensures { let before = memory_lent zone.now areas.entry in
-        let after = memory_left zone.now areas.exit in
+    ensures { let before = areas_lent zone.now areas.entry in
+        let after = areas_left zone.now areas.exit in
         Continues server before t m.now bytes.now
         reply.old reply.new out.old out.new result after }
 {
@@ -89,7 +77,7 @@ pub fn play(
     reply: &mut [u8],
     out: &mut [u8],
 ) -> Result<Ran, Refusal>
-    ensures { let after = memory_left zone.new areas.exit in
+    ensures { let after = areas_left zone.new areas.exit in
         Plays name.now t m.now bytes.now
         reply.old reply.new out.old out.new result after }
 {

@@ -1,5 +1,5 @@
 -- `perform`: line by line, what its call promises.
-use Rattle.replay.specs.Lent.{memory_lent}
+use Rattle.server_message.specs.Lent.{areas_lent}
 use Rattle.replay.proofs.Performing.{opened, closed, heard, edited, ticked}
 use Rattle.replay.proofs.respond.perform.Goals as goal
 use Rattle.replay.proofs.respond.perform.Goals.{in-Open, in-Close, in-Message, in-Batch, in-Tick}
@@ -7,7 +7,7 @@ use Rattle.replay.proofs.respond.perform.Goals.{in-Open, in-Close, in-Message, i
 pub returns : goal.returns
 returns c =
     let a = c.args in
-    let m = memory_lent a.zone.now a.areas in
+    let m = areas_lent a.zone.now a.areas in
     elim c.match-command.branch [
       | in-Open w ↦ rw (w.result-is, w.out-is, w.first-is, w.second-is, w.s0-is, w.s1-is, w.s2-is, w.s3-is)
           (opened a.server m a.bytes.now a.out.now a.command _ _ w.in-Open.is w.«open».ensures)
