@@ -36,6 +36,10 @@ fn refilled(n: usize, held: usize) -> Progress
     idle(false)
 }
 
+// `held, input, line, source` stay apart from here to `next_line`: its contract, and each below it, says of `input` and of `line` by
+// itself what is left in it (`NextLine .. input.new line.new`), and nothing of the source. A struct of the three `&mut`s would
+// need a clause for each field on what it lends, and no fewer names.
+
 // Reads once. Where the read fails, its error is handed on, and a line that is not whole is dropped.
 fn refill<S: Source>(held: usize, input: &mut Input, source: &mut S) -> io::Result<Progress>
     ensures ok { IfOk result (λ q. Refills held q) }

@@ -19,6 +19,7 @@ pub struct OutputLine<'a> {
     pub bytes: Option<&'a [u8]>,
 }
 
+// By hand: `char::from_digit` gives a char, if there is one, of which an octet would have to be made.
 #[tactic(auto, unfolding(crate::specs::Digit::digit_octet))]
 fn digit_octet(d: u8) -> u8
     requires { d < 16 }

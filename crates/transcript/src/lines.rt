@@ -25,7 +25,8 @@ pub struct Told {
     pub answer: Answer,
 }
 
-// What is noted of session s, if anything is.
+// What is noted of session s, if anything is. `verb, out, text` stay apart here and in `write_notes`: `Written` says of `text` by
+// itself what is left in it, and a struct of the three would be made for one call, `write_for_all`'s.
 #[tactic(auto, using(crate::proofs::Telling::noting), unfolding(crate::specs::Lines::note_line))]
 fn write_note(
     verb: Option<Verb>,
