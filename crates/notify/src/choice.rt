@@ -18,10 +18,8 @@ fn tells_apart(mark: bool, narrow: RemovalKind, wide: RemovalKind, a: Block, b: 
     requires { (narrow ≢ RemovalKind.Single) × (wide ≢ RemovalKind.Single) }
     ensures { result ≡ told_apart mark (removal_at narrow (rec_of a.entry.octets.now)) (removal_at wide (rec_of a.entry.octets.now)) (key_of (rec_of b.entry.octets.now)) }
 {
-    if !mark {
-        return false;
-    }
-    same_numbers(narrow, a, b) != same_numbers(wide, a, b) && wire::same_name(a.owner(), b.owner())
+    mark && same_numbers(narrow, a, b) != same_numbers(wide, a, b)
+        && wire::same_name(a.owner(), b.owner())
 }
 
 // Whether two collective removals at a's record cover the same of the marked records.

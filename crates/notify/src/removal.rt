@@ -55,7 +55,7 @@ pub fn covers(kind: RemovalKind, a: Block, b: Block) -> bool
     }
 }
 
-// The widest kind up to one whose removal at a's record spares b's, or Single.
+// The widest kind up to one whose removal at a's record spares b's, or Single. The loop goes from kind to kind and counts nothing.
 #[tactic(auto, using(crate::proofs::Removals::removal_spares))]
 fn sparing(most: RemovalKind, a: Block, b: Block) -> RemovalKind
     ensures { result ≡ narrowed most (rec_of a.entry.octets.now) (rec_of b.entry.octets.now) }

@@ -57,7 +57,7 @@ fn admit(zone: Zone<'_>, subs: Subscriptions<'_>, request: Request<'_>) -> Resul
     if subs.asks_already(question) {
         return Err(Denial::Abort);
     }
-    if subs.is_full() {
+    if session::is_full(subs.count) {
         return Err(Denial::Refuse(ReplyCode::ServFail));
     }
     Ok(())

@@ -54,7 +54,7 @@ fn is_absent(server: Server, session: Option<u64>) -> bool
     session.is_some_and(|i| is_free(server, i))
 }
 
-// The first of the four that fails decides.
+// The first of the four that fails decides. Four truths, as in the service's own order of its checks (service/Checks.refusal_of).
 #[tactic(auto, unfolding(crate::specs::Checks::first_of))]
 fn first_of(short: bool, early: bool, absent: bool, long: bool) -> Result<(), Refusal>
     ensures { refused_by result ≡ first_of short early absent long }

@@ -23,7 +23,7 @@ pub struct Server {
     pub zone: usize,
     // How many records there are.
     pub records: usize,
-    // Which of the two areas holds the records: the second or the first.
+    // Which of the two areas holds the records: the second or the first (a word of the C host that is 0 or not).
     pub second: bool,
     pub sessions: [Session; SESSIONS as usize],
 }

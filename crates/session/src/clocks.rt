@@ -69,10 +69,9 @@ impl Clocks {
     pub fn expired(self, subscribed: bool, t: u64) -> bool
         ensures { result ≡ expired_at subscribed t self }
     {
-        if 2 * u64::from(self.keepalive) <= t.saturating_sub(self.alive) {
-            return true;
-        }
-        !subscribed
-            && LEAST_INACTIVITY.max(2 * u64::from(self.inactivity)) <= t.saturating_sub(self.active)
+        2 * u64::from(self.keepalive) <= t.saturating_sub(self.alive)
+            || !subscribed
+                && LEAST_INACTIVITY.max(2 * u64::from(self.inactivity))
+                    <= t.saturating_sub(self.active)
     }
 }

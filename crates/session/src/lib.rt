@@ -5,4 +5,4 @@ mod clocks;
 mod subscriptions;
 
 pub use clocks::Clocks;
-pub use subscriptions::{AREA, Area, SUBSCRIPTIONS, Subscriptions, append, remove};
+pub use subscriptions::{AREA, Area, SUBSCRIPTIONS, Subscriptions, append, is_full, remove};

@@ -21,7 +21,8 @@ const BLOCK: usize = OWNER + MAX_NAME;
 
 pub const AREA: usize = SUBSCRIPTIONS * BLOCK;
 
-// A session's lent memory.
+// A session's lent memory. (One generic table would serve zone's records too, but an array's length can't be computed from const
+// arguments.)
 pub type Area = [u8; AREA];
 
 // A session's subscriptions: lent memory, and how many stand in it. A count over the limit counts as the limit.
@@ -88,6 +89,14 @@ impl<'a> Block<'a> {
 
 // ---- all of them
 
+// Whether there are as many as there may be, whatever the memory holds: a count alone tells.
+#[tactic(auto, using(crate::proofs::Table::length_subscriptions_of), unfolding(crate::specs::Subscriptions::is_full))]
+pub fn is_full(count: usize) -> bool
+    ensures { (area : List ℕ) → result ≡ is_full (subscriptions_of count area) }
+{
+    SUBSCRIPTIONS <= count
+}
+
 impl<'a> Subscriptions<'a> {
     // A count over the limit counts as the limit.
     #[tactic(auto, using(crate::proofs::Table::length_subscriptions_of))]
@@ -95,14 +104,6 @@ impl<'a> Subscriptions<'a> {
         ensures { result ≡ length (subscriptions_in self.entry) }
     {
         self.count.min(SUBSCRIPTIONS)
-    }
-
-    // Whether there are as many as there may be, whatever the memory holds.
-    #[tactic(auto, using(crate::proofs::Table::length_subscriptions_of), unfolding(crate::specs::Subscriptions::is_full))]
-    pub fn is_full(self) -> bool
-        ensures { (area : List ℕ) → result ≡ is_full (subscriptions_of self.entry.count area) }
-    {
-        SUBSCRIPTIONS <= self.count
     }
 
     // Where the first stands that passes a test.

@@ -4,7 +4,8 @@ ghost use Rattle.wire.specs.Name.{lower, name_length, same_octets, same_name, wi
 ghost use Rattle.wire.specs.Case.{Gives, caseless};
 ghost use Rattle.wire.specs.Reading.{name_at};
 
-// The octets of the name at the front, the zero octet at its end counted, if a name stands there.
+// The octets of the name at the front, the zero octet at its end counted, if a name stands there. The loop goes from label to label,
+// by their lengths.
 fn name_front(s: &[u8]) -> Option<usize>
     ensures { result ≡ name_length s.now }
 {
@@ -86,7 +87,8 @@ impl Likeness for Letters {
 }
 
 // Part by part, leaving at the first that differs. The last part ends where the octets end, so it may overlap the one before it:
-// of `chunks` the last would be short, and not of a width that the compiler knows.
+// of `chunks` the last would be short, and not of a width that the compiler knows. Tried: `(0..last).step_by(width)`, which ends in two
+// ways; what is returned behind the loop (`returns`) was not proved of the second.
 fn by_parts<L: Likeness>(a: &[u8], b: &[u8], width: usize) -> bool
     requires { (length a.now ≡ length b.now) × (1 ≤ width) × (width ≤ length a.now) }
     ensures { result ≡ same_octets (map L.seen a.now) (map L.seen b.now) }
@@ -107,7 +109,8 @@ const PART: usize = 16;
 
 const SHORT: usize = 4;
 
-// Octets of unlike length are told apart without looking at them.
+// Octets of unlike length are told apart without looking at them. A way for each length, each with its return: as one expression the
+// three ways would be an `if` within the `&&`.
 #[tactic(auto, using(crate::proofs::Loops::as_they_stand, crate::proofs::Loops::unlike_length))]
 pub fn same_octets(a: &[u8], b: &[u8]) -> bool
     ensures { result ≡ same_octets a.now b.now }
@@ -138,7 +141,7 @@ pub fn same_name(a: &[u8], b: &[u8]) -> bool
     Letters::alike(a, b)
 }
 
-// By label lengths. Tried: `while let Some(n) = name.get(at)`, 1.09 times slower.
+// From label to label, by their lengths. Tried: `while let Some(n) = name.get(at)`, 1.09 times the instructions.
 pub fn within(zone: &[u8], name: &[u8]) -> bool
     ensures { result ≡ is_within zone.now name.now }
 {

@@ -130,12 +130,18 @@ fn may_be_same(a: &[u8], b: &[u8]) -> bool
     a.len() == b.len() && a.first() == b.first() && a.last() == b.last()
 }
 
+// A count over 40 counts as 40.
+pub fn clamped(count: usize) -> usize
+    ensures { result ≡ min count max_records }
+{
+    count.min(RECORDS)
+}
+
 impl<'a> Store<'a> {
-    // A count over 40 counts as 40.
     pub fn len(self) -> usize
         ensures { result ≡ min self.entry.count max_records }
     {
-        self.count.min(RECORDS)
+        clamped(self.count)
     }
 
     // Past the last block of the area nothing.
