@@ -45,16 +45,5 @@ pub fn stored(rt: &impl Print, push: &[u8]) -> io::Result<()> {
 }
 
 pub fn refused(rt: &impl Print, fault: BatchFault) -> io::Result<()> {
-    batch(rt, refusal(fault), &[])
-}
-
-// The numbers of service/Answer.fault_number once more: this program stands beside the server, and shows what notify writes with
-// nothing of the server under it.
-fn refusal(fault: BatchFault) -> u32 {
-    match fault {
-        BatchFault::Unreadable => 14,
-        BatchFault::BadValue => 15,
-        BatchFault::TooManyEdits => 16,
-        BatchFault::StoreFull => 17,
-    }
+    batch(rt, server::fault_number(fault), &[])
 }

@@ -16,6 +16,8 @@ use run::Run;
 use std::io;
 
 // A proved loop has to end, and nothing says that the input does: the turns are counted.
+// The loop stands in each program over lines: what a line does is done to the program's own state, here the run. As a closure in one
+// loop of input it would bring that state into each clause there.
 fn main(rt: HostRuntime) -> io::Result<()> {
     let mut stdin = rt.stdin();
     let mut input = [0u8; 65536];

@@ -12,7 +12,7 @@ use zone::Store;
 // The output of one session.
 const OUTPUT: usize = 16384;
 
-// The records are in the first area or in the second one.
+// The records are in the first area, or in the second one where in_second says so: a truth about which, with no value beside it.
 #[derive(Drop)]
 pub struct Run {
     first: zone::Area,
@@ -55,6 +55,20 @@ fn batch(
             push(rt, old, Store { area: new, count }, subs)?;
             Ok(Some(count))
         }
+    }
+}
+
+// The area that holds the records, and the other one. The same `if` in Run::batch lends each area as & in one branch and as &mut in
+// the other, which the borrow checker does not cover: a place is lent at two lifetimes. Here both have one.
+fn areas<'a>(
+    first: &'a mut zone::Area,
+    second: &'a mut zone::Area,
+    in_second: bool,
+) -> (&'a zone::Area, &'a mut zone::Area) {
+    if in_second {
+        (second, first)
+    } else {
+        (first, second)
     }
 }
 
@@ -103,24 +117,16 @@ impl Run {
     }
 
     fn batch(&mut self, rt: &impl Print, bytes: &[u8]) -> io::Result<()> {
-        let count = self.records;
         let subs = Subscriptions {
             area: &self.subs,
             count: self.live,
         };
-        let stored = if self.in_second {
-            let old = Store {
-                area: &self.second,
-                count,
-            };
-            batch(rt, bytes, old, &mut self.first, subs)?
-        } else {
-            let old = Store {
-                area: &self.first,
-                count,
-            };
-            batch(rt, bytes, old, &mut self.second, subs)?
+        let (area, new) = areas(&mut self.first, &mut self.second, self.in_second);
+        let old = Store {
+            area,
+            count: self.records,
         };
+        let stored = batch(rt, bytes, old, new, subs)?;
         if let Some(records) = stored {
             self.records = records;
             self.in_second = !self.in_second;

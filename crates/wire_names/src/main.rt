@@ -13,6 +13,8 @@ use question::ask;
 use std::io;
 
 // A proved loop has to end, and nothing says that the input does: the turns are counted.
+// The loop stands in each program over lines, though a line changes no state here: one loop of input for all of them would take a
+// closure, and in push_runs and replay the program's own state with it.
 fn main(rt: HostRuntime) -> io::Result<()> {
     let mut stdin = rt.stdin();
     let mut input = [0u8; 65536];

@@ -1,6 +1,6 @@
 // The three questions and their answers.
 use dso::is_name;
-use script::{first, read_bytes, read_number};
+use script::{read_bytes, read_number};
 use std::io;
 use table::part;
 
@@ -27,6 +27,7 @@ fn ask_read(rt: &impl Print, place: &[u8], hex: &[u8]) -> io::Result<()> {
     let Some(at) = read_number(place) else {
         return unreadable(rt);
     };
+    // Rust has no From for a usize of a u64; here both have 64 bits, so the cast loses nothing and there is no refusal to answer.
     read(rt, part(&space, 0, n), at as usize)
 }
 
@@ -69,15 +70,14 @@ fn ask_two<F: Fn(&[u8], &[u8]) -> bool>(
     compare(rt, part(&left, 0, n), part(&right, 0, m), holds)
 }
 
+// A tab too many is no digit of the last field.
 pub fn ask(rt: &impl Print, line: &[u8]) -> io::Result<()> {
-    let Some(v) = first(line, b'\t') else {
+    let mut fields = line.splitn(3, |b| *b == b'\t');
+    let (Some(verb), Some(first), Some(second)) = (fields.next(), fields.next(), fields.next())
+    else {
         return unreadable(rt);
     };
-    let rest = &line[v + 1..];
-    let Some(f) = first(rest, b'\t') else {
-        return unreadable(rt);
-    };
-    put(rt, &line[..v], &rest[..f], &rest[f + 1..])
+    put(rt, verb, first, second)
 }
 
 fn put(rt: &impl Print, verb: &[u8], first: &[u8], second: &[u8]) -> io::Result<()> {
