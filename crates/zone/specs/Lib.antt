@@ -11,3 +11,4 @@ pub mod Table
 pub mod Update
 pub mod Edit
 pub mod Batches
+pub mod Drafts

@@ -7,21 +7,25 @@ ghost use Rattle.zone.specs.Batch.{max_records, max_ttl, batch_of};
 ghost use Rattle.zone.specs.Table.{block_size, area_size, records_in, key_in, index_of};
 ghost use Rattle.zone.specs.Edit.{record_of, FitsBlock};
 ghost use Rattle.zone.specs.Update.{TtlSet, applied, numbered};
-ghost use Rattle.zone.specs.Batches.{drafted, SameMemory, Kept, stored_as, edited_of};
+ghost use Rattle.zone.specs.Batches.{edited_of};
 
 use crate::BatchFault;
 use crate::reading::{Edit, MAX_TTL, checked_edit};
 use crate::records::{Area, BLOCK, OWNER, RDATA, RECORDS, RRCLASS, RRTYPE, RecordKey, Store, TTL};
 use table::part;
 
-// The store that a batch makes: lent memory, and how many records stand in it.
+// The store that a batch makes: lent memory, and how many records stand in it, never more than a store has.
+// Its methods name the area before they lend it: a slice of it taken at the call isn't covered beside a ghost field.
 #[derive(Drop)]
 struct Draft<'a> {
     area: &'a mut Area,
     count: usize,
+    ghost few: { count ≤ max_records },
 }
 
 impl Draft<'_> {
+    ghost use Rattle.zone.specs.Drafts.{drafted, SameMemory, Kept, stored_as};
+
     fn store(&self) -> Store<'_>
         ensures { (result.area.now ≡ self.now.area.now) × (result.count ≡ self.now.count) }
     {
@@ -37,13 +41,14 @@ impl Draft<'_> {
         ensures kept { Kept self.old self.new }
         ensures set { TtlSet ttl self.old.area.now i self.new.area.now }
     {
-        wire::write_field(self.area, i * BLOCK + TTL, ttl);
+        let area = &mut *self.area;
+        wire::write_field(area, i * BLOCK + TTL, ttl);
     }
 
     // The TTL of every record with the edit's key, from the first of them on.
     #[tactic(auto, using(crate::proofs::Applies::of_sweeping))]
     fn set_ttls(&mut self, first: usize, edit: Edit<'_>)
-        requires { (self.old.count ≤ max_records) × (index_of (key_in edit.key) (drafted self.old) ≡ Some first) }
+        requires { index_of (key_in edit.key) (drafted self.old) ≡ Some first }
         ensures kept { Kept self.old self.new }
         ensures set { drafted self.new ≡ map (set_if (key_in edit.entry.key) edit.entry.ttl) (drafted self.old) }
     {
@@ -56,23 +61,22 @@ impl Draft<'_> {
 
     #[tactic(auto, using(crate::proofs::Updates::records_slid))]
     fn close_gap(&mut self, i: usize)
-        requires { (i < self.old.count) × (self.old.count ≤ max_records) }
+        requires { i < self.old.count }
         ensures same_memory { SameMemory self.old self.new }
         ensures fewer { self.new.count ≡ self.old.count - 1 }
         ensures gone { drafted self.new ≡ cut i (drafted self.old) }
     {
         let at = i * BLOCK;
         let count = self.count - 1;
-        table::slide(self.area, at, at + BLOCK, (count - i) * BLOCK);
+        let area = &mut *self.area;
+        table::slide(area, at, at + BLOCK, (count - i) * BLOCK);
         self.count = count;
     }
 
     // Every record with a key, from the last to the first.
     #[tactic(auto, using(crate::proofs::Updates::of_thinning))]
     fn remove(&mut self, key: RecordKey<'_>)
-        requires { self.old.count ≤ max_records }
         ensures same_memory { SameMemory self.old self.new }
-        ensures few { self.new.count ≤ max_records }
         ensures gone { drafted self.new ≡ removed (key_in key.entry) (drafted self.old) }
     {
         for i in (0..self.count).rev() {
@@ -95,19 +99,19 @@ impl Draft<'_> {
         let rdata = edit.key.rdata;
         // Both fit an octet, as the check proves: `try_from` would bring a refusal that has no case here.
         let lengths = [name.len() as u8, rdata.len() as u8];
-        wire::write_octets(self.area, at, &lengths);
-        write_numbers(self.area, at, edit);
-        wire::write_octets(self.area, at + OWNER, name);
-        wire::write_octets(self.area, at + RDATA, rdata);
+        let area = &mut *self.area;
+        wire::write_octets(area, at, &lengths);
+        write_numbers(area, at, edit);
+        wire::write_octets(area, at + OWNER, name);
+        wire::write_octets(area, at + RDATA, rdata);
         self.count += 1;
     }
 
     // Refused where there are 40 others.
     #[tactic(auto, using(crate::proofs::Applies::of_putting))]
     fn put(&mut self, edit: Edit<'_>) -> Result<(), BatchFault>
-        requires { (self.old.count ≤ max_records) × FitsBlock edit × (edit.ttl ≤ max_ttl) }
+        requires { FitsBlock edit × (edit.ttl ≤ max_ttl) }
         ensures same_memory { SameMemory self.old self.new }
-        ensures few { self.new.count ≤ max_records }
         ensures store { stored_as result self.new ≡ applied (drafted self.old) (record_of edit.entry) }
     {
         if let Some(i) = self.store().find(edit.key) {
@@ -124,9 +128,8 @@ impl Draft<'_> {
     // One edit: a put, or the removal of what has the key.
     #[tactic(auto, using(crate::proofs::Applies::removed))]
     fn apply(&mut self, edit: Edit<'_>) -> Result<(), BatchFault>
-        requires { (self.old.count ≤ max_records) × FitsBlock edit }
+        requires { FitsBlock edit }
         ensures same_memory { SameMemory self.old self.new }
-        ensures few { self.new.count ≤ max_records }
         ensures store { stored_as result self.new ≡ applied (drafted self.old) (record_of edit.entry) }
     {
         if edit.ttl <= MAX_TTL {
@@ -139,7 +142,6 @@ impl Draft<'_> {
     // How many records there are in the end.
     #[tactic(auto, using(crate::proofs::Steps::of_batches))]
     fn apply_all(&mut self, zone: &[u8], bytes: &[u8]) -> Result<usize, BatchFault>
-        requires { self.old.count ≤ max_records }
         ensures same_memory { SameMemory self.old self.new }
         ensures outcome { edited_of result self.new.area.now ≡ batch_of zone.now bytes.now (drafted self.old) }
     {

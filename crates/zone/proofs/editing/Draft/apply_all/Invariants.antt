@@ -1,6 +1,6 @@
 -- `zone::editing::Draft::apply_all` meets its contract. The loop's invariant: what is left of the batch gives the outcome.
 -- Assumes nothing.
-use Rattle.zone.specs.Batches.{SameMemory, drafted}
+use Rattle.zone.specs.Drafts.{SameMemory, drafted}
 use Rattle.zone.proofs.Steps.{Midway}
 use Rattle.zone.proofs.editing.Draft.apply_all.Given as goal
 

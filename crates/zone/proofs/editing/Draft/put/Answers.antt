@@ -8,7 +8,7 @@ use Rattle.zone.proofs.editing.Draft.put.Goals as goal
 
 pub returns-in-Some-clause-store : goal.returns-in-Some-clause-store
 returns-in-Some-clause-store c =
-    put_held _ _ _ _ c.requires.2
+    put_held _ _ _ _ c.requires.1
     (sym (ap₂ (λ (n : ℕ) (a : List ℕ). index_of (key_in c.args.edit.key) (records_of n a)) c.store.ensures.1 c.store.ensures.0)
     ∙ sym c.find.ensures ∙ c.in-Some.is)
     c.set_ttls.ensures.set

@@ -1,6 +1,6 @@
 -- `zone::editing::Draft::remove` meets its contract. The loop's invariant: the records from `i` on are looked at. Assumes nothing.
 use Rattle.zone.specs.Table.{key_in}
-use Rattle.zone.specs.Batches.{SameMemory}
+use Rattle.zone.specs.Drafts.{SameMemory}
 use Rattle.zone.proofs.Updates.{Dropped}
 use Rattle.zone.proofs.editing.Draft.remove.Given as goal
 

@@ -1,6 +1,6 @@
 -- `zone::editing::Draft::set_ttls` meets its contract. The loop's invariant: the records before `i` are done. Assumes nothing.
 use Rattle.zone.specs.Table.{key_in}
-use Rattle.zone.specs.Batches.{Kept}
+use Rattle.zone.specs.Drafts.{Kept}
 use Rattle.zone.proofs.Updates.{Timed}
 use Rattle.zone.proofs.editing.Draft.set_ttls.Given as goal
 
