@@ -1,4 +1,6 @@
 // Batch: record edits, and the PUSH for each session whose view they change.
+// That the output is no shorter than `least_output` is found by `check` alone, and asked as far as `tell`, which cuts the output: a type that
+// holds it would be a struct with a `&mut`, and each clause would name its reference. That i is a session's number is the loop's bound, asked there too.
 ghost use Rattle.std.specs.Prelude.{◌*◌, ◌≤◌, ◌<◌, ◌≡◌, length, true};
 ghost use Rattle.zone.specs.Table.{records_in};
 ghost use Rattle.service.specs.Call.{Bytes, Call, push_to, edits};
@@ -104,7 +106,8 @@ struct Stored {
     counts: Counts,
 }
 
-// From the area that holds the store into the other one, which then holds it. A fault leaves the first as it was.
+// From the area that holds the store into the other one, which then holds it. A fault leaves the first as it was. The parameters of this
+// function and of `checked` are those of `batch`, the documented call: of the two areas one is read and the other written, in turn.
 fn edit(
     server: Server,
     zone: &Name,
@@ -156,6 +159,7 @@ fn checked(
         ..Brought::at(t)
     };
     check(server, b)?;
+    // Two calls: the borrow checker doesn't cover a pair of areas chosen first, `let (old, new) = if ..`, where a `&mut` stands in a tuple.
     if server.second {
         edit(server, zone, second, first, tables, t, bytes, out)
     } else {

@@ -29,6 +29,7 @@ fn kind_of(judgment: Judgment) -> u32
     }
 }
 
+// Numbers for C too, of the same enum.
 fn reply_kind(code: ReplyCode) -> u32
     ensures { result ≡ reply_kind code }
 {

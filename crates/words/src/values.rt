@@ -1,11 +1,10 @@
 // The values that go with an answer: eight words that a C host lends.
-ghost use Rattle.std.specs.Prelude.{◌≡◌, [], ◌∷◌, map};
+ghost use Rattle.std.specs.Prelude.{◌≡◌, [], ◌∷◌};
 ghost use Rattle.server.specs.Answers.{answer_of};
-ghost use Rattle.words.specs.Words.{flag};
 ghost use Rattle.words.specs.Values.{eight, place_numbers, values_of};
 
 use dso::RecordPlaces;
-use server::{Answer, Counts, Flags};
+use server::Answer;
 
 pub const VALUES: usize = 8;
 
@@ -17,27 +16,11 @@ fn first_value(n: u64) -> Values
     [n, 0, 0, 0, 0, 0, 0, 0]
 }
 
-fn flag_values(f: Flags) -> Values
-    ensures { result ≡ eight (map flag f) }
-{
-    let [a, b, c, d] = f;
-    [
-        u64::from(a),
-        u64::from(b),
-        u64::from(c),
-        u64::from(d),
-        0,
-        0,
-        0,
-        0,
-    ]
-}
-
-fn count_values(n: Counts) -> Values
+fn four_values(n: [u64; 4]) -> Values
     ensures { result ≡ eight n }
 {
     let [a, b, c, d] = n;
-    [a as u64, b as u64, c as u64, d as u64, 0, 0, 0, 0]
+    [a, b, c, d, 0, 0, 0, 0]
 }
 
 fn place_values(p: RecordPlaces) -> Values
@@ -65,8 +48,8 @@ fn values_of(answer: Answer) -> Values
 {
     match answer {
         Answer::Opened(session) => first_value(session.0),
-        Answer::Ended(flags) => flag_values(flags),
-        Answer::Sent(counts) => count_values(counts),
+        Answer::Ended(flags) => four_values(flags.map(u64::from)),
+        Answer::Sent(counts) => four_values(counts.map(|n| n as u64)),
         Answer::Reconfirm(places) => place_values(places),
         Answer::Done | Answer::NotOurs | Answer::Aborted | Answer::Refused(_) => first_value(0),
     }
