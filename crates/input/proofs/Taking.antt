@@ -62,6 +62,7 @@ module _ (held : ℕ) (q : Progress) (f : Refills held q) (input line : List ℕ
       record {
         is-ready = λ n e.
             record {
+              ready = e;
               came = [];
               unread = λ k. refl;
               held = ap (λ (k : ℕ). take k line) (f.last e).0 ∙ piece-nil (take held line) n;
@@ -78,6 +79,7 @@ module _ (held : ℕ) (q : Progress) (f : Refills held q) (input line : List ℕ
       record {
         is-ready = λ n e.
             record {
+              ready = e;
               came = left_of q input;
               unread = λ k. no_both k (ended-nil (take held line));
               held = ap (λ (x : Piece). x.held) piece;
@@ -111,6 +113,7 @@ read-on h q input line o t m r input' line' s =
     record {
       is-ready = λ n k. let g = o.is-going n e m in let y = s.is-ready (kept-held h g.came (take q.held line) g.held) k in
           record {
+            ready = k;
             came = g.came ++ y.came;
             unread = λ z. no_both z (ended-nil h);
             held = y.held ∙ ap (λ (x : Piece). x.held) (join g y.came);
@@ -144,6 +147,7 @@ module _ (p : Progress) (input line : List ℕ) (q : Progress) (line' : List ℕ
   cut-next e =
       let piece = piece-begun ∙ ap (piece_of []) (sym (append-nil (left_of p input))) in
       record {
+        ready = e;
         came = [];
         unread = λ m. refl;
         held = ap (λ (x : Piece). x.held) piece;
@@ -167,6 +171,7 @@ module _ (p : Progress) (input line : List ℕ) (q : Progress) (line' : List ℕ
   read_next e (Some r) input' line'' y =
       let z = y kept-begun in
       record {
+        ready = z.ready;
         came = z.came;
         unread = λ m. no_both m (going e);
         held = z.held ∙ ap (λ (x : Piece). x.held) (goes-on e z.came);

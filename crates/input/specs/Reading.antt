@@ -26,6 +26,7 @@ pub record Resumes (p : Progress) (input line : List ℕ) (q : Progress) (line' 
 -- kept stands at the front of `line`, and what follows it is left of the chunk. Where `left` has its LF, nothing more came; only the
 -- input's last line may be without one. Which octets come, no contract can say.
 pub record LineReady (h left : List ℕ) (q : Progress) (input line : List ℕ) : Type 0 where
+  pub ready : q.ready ≡ true
   pub came : List ℕ
   pub unread : (piece_of h left).ended ≡ true → came ≡ []
   pub held : take q.held line ≡ (piece_of h (left ++ came)).held
