@@ -1,13 +1,13 @@
 -- The lines of any answer fit into the memory that the program lends for them.
 use Prim.Native.Nat.{ℕ, ◌+◌, ◌-◌, ◌*◌, ◌≤◌}
-use mathlib.Core.Path.{◌≡◌}
+use mathlib.Core.Path.{◌≡◌, refl}
 use mathlib.Core.Bool.{Bool, true, false, cond}
 use mathlib.Core.List.{List, [], ◌∷◌}
 use native.Mathlib.Omega.{arith}
 use lib.ListN.{length, length-append, length-take, length-drop}
 use Rattle.std.specs.Prelude.{Option, Some, None}
 use Rattle.wire.specs.Part.{part}
-use Rattle.service.specs.Answer.{Answer, answer_number}
+use Rattle.service.specs.Answer.{Answer, sent, ended, answer_number}
 use Rattle.service.specs.Checks.{output_size, least_output}
 use Rattle.script.specs.Output.{line_octets}
 use Rattle.script.specs.Code.{Written}
@@ -71,6 +71,15 @@ module _ (v : Option Verb) (out : List ℕ) (h : length out ≤ least_output) wh
   unfolding lines_of
   length-lines own a e =
       either (tells_all v) (lines_for_all v a out) (line_for_one v own a out) (length-all a e) (length-one own a)
+
+  -- So of four counts and of four flags, which are all that an answer of the code tells of; its other answers tell of four by themselves.
+  pub length-sent : (own : Option ℕ) (w x y z : ℕ) → length (lines_of v own (sent (w ∷ x ∷ y ∷ z ∷ [])) out) ≤ text_room
+  unfolding notes_of
+  length-sent own w x y z = length-lines own (sent (w ∷ x ∷ y ∷ z ∷ [])) refl
+
+  pub length-ended : (own : Option ℕ) (a b c d : Bool) → length (lines_of v own (ended (a ∷ b ∷ c ∷ d ∷ [])) out) ≤ text_room
+  unfolding notes_of
+  length-ended own a b c d = length-lines own (ended (a ∷ b ∷ c ∷ d ∷ [])) refl
 
 -- ---- so they are written whole
 
