@@ -107,10 +107,11 @@ module _ (w w' : List ℕ) (s : Server) (e : s ≡ server_of w) (t : ℕ) (d : R
   pub returned-decision : Returns w w' m [] r (outcome (held_by w m) call)
   returned-decision = returned w w' s e (decided_by s t d) r keeps-decision m m [] call g
 
-  pub returned-decision-with : (v : List ℕ) → v ≡ values_of (answer_of (answer_by d))
+  pub returned-decision-with : (a : Answer) → a ≡ answer_by d → (v : List ℕ) → v ≡ values_of (answer_of a)
       → ReturnsWith v w w' m [] r (outcome (held_by w m) call)
-  returned-decision-with v p =
-      returned-with w w' s e (decided_by s t d) r keeps-decision m m [] call g v p
+  returned-decision-with a f v p =
+      returned-with w w' s e (decided_by s t d) r keeps-decision m m [] call g v
+      (p ∙ ap (λ (x : Answer). values_of (answer_of x)) f)
 
 -- ---- start
 

@@ -7,9 +7,8 @@ ghost use Rattle.service.specs.Answer.{answer_number};
 ghost use Rattle.service.specs.Call.{Bytes, Call, outcome, opens, closes, receives, edits, ticks};
 ghost use Rattle.server.specs.Memory.{Memory, memory_of};
 ghost use Rattle.server.specs.Answers.{answer_of, last_accepted};
-ghost use Rattle.server.specs.Changes.{answer_by, decided_by};
+ghost use Rattle.server.specs.Changes.{decided_by};
 ghost use Rattle.words.specs.Words.{server_of};
-ghost use Rattle.words.specs.Values.{values_of};
 ghost use Rattle.weavemitten.specs.Calls.{held_by, Keeps, Begins, Returns, ReturnsWith, ReturnsOn};
 
 use server::{
@@ -44,15 +43,6 @@ fn keep_decision(words: &mut Words, t: u64, decision: Decision) -> u32
     answer_number(decision_answer(decision))
 }
 
-// The same, with the values of its answer.
-fn keep_told(words: &mut Words, t: u64, decision: Decision, values: &mut Values) -> u32
-    ensures kept { Keeps words.old words.new (decided_by (server_of words.old) t decision) result }
-    ensures told { values.new ≡ values_of (answer_of (answer_by decision)) }
-{
-    put(values, decision_answer(decision));
-    keep_decision(words, t, decision)
-}
-
 #[unsafe(no_mangle)]
 pub extern "C" fn weavemitten_server_start(words: &mut Words, octets: &mut Name, zone: &[u8]) -> u32
     ensures { Begins zone.now words.old words.new octets.old octets.new result }
@@ -66,6 +56,8 @@ pub extern "C" fn weavemitten_server_start(words: &mut Words, octets: &mut Name,
     }
 }
 
+// Open and tick end alike. In one function of both, which was proved, the two lines took a tick of no session 102 instructions for 87, and an open
+// with its close 147 for 142.
 #[unsafe(no_mangle)]
 pub extern "C" fn weavemitten_server_open(words: &mut Words, time: u64, values: &mut Values) -> u32
     ensures { (m : Memory)
@@ -73,7 +65,8 @@ pub extern "C" fn weavemitten_server_open(words: &mut Words, time: u64, values: 
         (outcome (held_by words.old m) (opens time)) }
 {
     let decision = decide_open(load(words), time);
-    keep_told(words, time, decision, values)
+    put(values, decision_answer(decision));
+    keep_decision(words, time, decision)
 }
 
 #[unsafe(no_mangle)]
@@ -168,5 +161,6 @@ pub extern "C" fn weavemitten_server_tick(words: &mut Words, time: u64, values: 
         (outcome (held_by words.old m) (ticks time)) }
 {
     let decision = decide_tick(load(words), time);
-    keep_told(words, time, decision, values)
+    put(values, decision_answer(decision));
+    keep_decision(words, time, decision)
 }

@@ -6,5 +6,4 @@ use Rattle.weavemitten.proofs.calls.weavemitten_server_open.Goals as goal
 pub returns : goal.returns
 returns c m =
     let a = c.args in
-    let k = c.keep_told.ensures in
-    returned-decision-with a.words.now _ _ c.load.ensures a.time _ _ k.kept m (opens a.time) (c.decide_open-decision.ensures m) _ k.told
+    returned-decision-with a.words.now _ _ c.load.ensures a.time _ _ c.keep_decision.ensures m (opens a.time) (c.decide_open-decision.ensures m) _ c.decision_answer.ensures _ c.put.ensures
