@@ -36,6 +36,7 @@ fn refilled(n: usize, held: usize) -> Progress
     idle(false)
 }
 
+// Each hands on the source's error, and says so of its own result (`error`), whose type is std's.
 // `held, input, line, source` stay apart from here to `next_line`: its contract, and each below it, says of `input` and of `line` by
 // itself what is left in it (`NextLine .. input.new line.new`), and nothing of the source. A struct of the three `&mut`s would
 // need a clause for each field on what it lends, and no fewer names.
@@ -86,7 +87,7 @@ fn read_on<S: Source>(
         }
         q = advance(q.held, input, line, source)?;
     }
-    Ok(if q.ready { Some(q) } else { None })
+    Ok(q.ready.then_some(q))
 }
 
 // Takes the next line, if there is one: from the chunk that was read last, and from the next ones where it goes on. Where the chunk has

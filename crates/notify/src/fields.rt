@@ -17,6 +17,7 @@ const REMOVE_ONE: u32 = 0xFFFF_FFFF;
 
 const REMOVE_ALL: u32 = 0xFFFF_FFFE;
 
+// Flat, where `zone::Edit` has a key and a TTL: a removal sets type, class and RDATA each by itself.
 #[derive(Clone, Copy)]
 pub struct Fields<'a> {
     pub name: &'a [u8],
@@ -65,7 +66,7 @@ pub fn removal(kind: RemovalKind, b: Block<'_>) -> Fields<'_>
     }
 }
 
-// Type, class, TTL and RDLEN.
+// Type, class, TTL and RDLEN, of which the cast is proved to lose nothing.
 #[tactic(auto, using(crate::proofs::Writing::fixed_part))]
 fn write_fixed(out: &mut [u8], at: usize, fields: Fields)
     requires { (at + 10 < 2 ^ 64) × (length fields.rdata.now < 2 ^ 16) }

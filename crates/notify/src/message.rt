@@ -21,7 +21,7 @@ use dso::Question;
 use session::Subscriptions;
 use zone::{Block, Store};
 
-// Whether a record's removal, where it has one, covers b's.
+// Whether a record's removal, where it has one, covers b's. (Tried: `is_some_and`, here and in `has_ttl`; it was not proved.)
 #[tactic(auto, unfolding(crate::specs::Marks::kind_covers))]
 fn kind_covers(kind: Option<RemovalKind>, e: Block, b: Block) -> bool
     ensures { result ≡ kind_covers kind (rec_of e.entry.octets.now) (rec_of b.entry.octets.now) }
@@ -47,7 +47,7 @@ fn is_first(old: Store, kinds: &Kinds, i: usize) -> bool
     true
 }
 
-// The removal of record i, if it is sent.
+// The removal of record i, if it is sent. (Tried: `then`, here, in `addition_sent` and in `choose`; it was not proved.)
 fn removal_sent<'a>(old: Store<'a>, kinds: &Kinds, i: usize) -> Option<Fields<'a>>
     requires { i < min old.count max_records }
     ensures { Gives (head_at (removals_of kinds.now (take i (records_in old.entry))) (get_or kinds.now i None) (rec_of (block_at old.entry.area.now i))) result }
@@ -89,6 +89,8 @@ fn write_each<'a, F: Fn(usize) -> Option<Fields<'a>>>(
     end
 }
 
+// One contract for each list: what `write_each` wrote can be said of each of the two closures, and not of any. That there is room for a
+// message before a place is a bound on the place, which is a number that the writers hand on.
 fn write_removals(out: &mut [u8], at: usize, old: Store, kinds: &Kinds) -> usize
     requires { at ≤ 65536 }
     ensures { Step (room * max_records) out.old at (changes_octets (map removal (heads [] kinds.now (records_in old.entry)))) out.new result }
@@ -108,7 +110,8 @@ const FRONT: usize = 18;
 
 const UNIDIRECTIONAL: u16 = 0x3000;
 
-// What stands in front of changes that end at a place; the length of the whole. An empty list sends no PUSH.
+// What stands in front of changes that end at a place; the length of the whole. An empty list sends no PUSH. The casts are proved to
+// lose nothing.
 fn finish(out: &mut [u8], end: usize) -> usize
     requires { (front_length ≤ end) × (end < 2 ^ 16) }
     ensures { Fronted out.old end out.new result }

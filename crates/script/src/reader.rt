@@ -43,7 +43,7 @@ pub fn read_bytes(s: &[u8], bytes: &mut [u8]) -> Option<usize>
 }
 
 // Times and sessions are the line's own numbers; of a message or a batch, so many octets stand at the front of the memory
-// that was lent.
+// that was lent. (A count and no slice: the lines that a command writes are promised whatever that memory holds by then.)
 #[derive(Clone, Copy)]
 pub enum Command {
     Open(u64),
@@ -53,6 +53,7 @@ pub enum Command {
     Tick(u64),
 }
 
+// Tested once, in `read_line`. The readers behind it ask for it: as a type it would have to be made anew of each rest of a line.
 const MAX_LINE: usize = 32_768;
 
 // A verb and its time, and nothing behind them.

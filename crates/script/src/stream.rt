@@ -19,7 +19,8 @@ pub struct Taken {
     pub ended: bool,
 }
 
-// Takes the input up to the line's LF, or all of it, onto the line that is held in so many octets.
+// Takes the input up to the line's LF, or all of it, onto the line that is held in so many octets. The memory is written and the count
+// handed back, so they are no one value.
 #[tactic(auto, using(crate::proofs::Streaming::cutting))]
 pub fn cut(input: &[u8], line: &mut Line, held: usize) -> Taken
     ensures { Cuts input.now line.old held line.new result }

@@ -44,6 +44,8 @@ pub fn put(out: &mut [u8], at: usize, text: &[u8]) -> usize
 
 // Memory that is lent for lines, and the next free place in it.
 #[derive(Drop)]
+// Each method says that `out` is still the slice that was lent (`same`): of a `&mut` in a struct that is a fact about two moments, which no
+// field can hold.
 struct LineWriter<'a> {
     out: &'a mut [u8],
     at: usize,
@@ -62,6 +64,7 @@ impl LineWriter<'_> {
         ensures same { self.new.out.ghost_name ≡ self.old.out.ghost_name }
         ensures written { Written self.old.out.now self.old.at (decimal x) self.new.out.now self.new.at }
     {
+        // Below ten: the cast loses nothing.
         let last = digit_octet((x % 10) as u8);
         if 10 <= x {
             self.number(x / 10);

@@ -28,7 +28,7 @@ pub enum Answer {
     Aborted,
     // RECONFIRM, with the places of its four parts in the message.
     Reconfirm(RecordPlaces),
-    // Refused: nothing changed.
+    // Refused: nothing changed. (No Err around the others: the service's answers are one list, which is numbered as one.)
     Refused(Refusal),
 }
 

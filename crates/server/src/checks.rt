@@ -100,7 +100,7 @@ fn is_missing(i: u64, x: Session) -> bool
     SESSIONS <= i || !x.live
 }
 
-// The checks of a message on session i, given the lengths of its output slice and of its octets.
+// The checks of a message on session i, given the lengths of its output slice and of its octets. (From usize to u64 there is no From.)
 pub fn check_message(
     c: Context,
     time: u64,

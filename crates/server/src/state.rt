@@ -4,6 +4,7 @@ ghost use Rattle.server.specs.Numbers.{bare_of, vacancy, newcomer, session_at, c
 
 use session::Clocks;
 
+// Numbers of sessions are u64, as C has them, and an array's places usize: between the two there is no From, but `as` alone.
 pub const SESSIONS: u64 = 4;
 
 // One session: whether it is open, its clocks, and how many subscriptions it has. No Option of the other two: any words of a
@@ -34,6 +35,7 @@ pub struct Context {
     pub latest: u64,
     pub zone: usize,
     pub records: usize,
+    // As the server has it.
     pub second: bool,
     pub session: Session,
 }
@@ -77,7 +79,7 @@ pub fn fresh(zone: usize) -> Server
     }
 }
 
-// The session of a number; past the last one a vacant place.
+// The session of a number; past the last one a vacant place. (Tried: `copied` and `unwrap_or`; what it returns was not proved.)
 pub fn session_at(server: Server, i: u64) -> Session
     ensures { result ≡ session_at i server }
 {

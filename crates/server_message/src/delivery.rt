@@ -17,6 +17,10 @@ use server::{
 };
 use service::{Refusal, SessionNumber};
 
+// That a number is one of four and that the output has room, the inner functions ask: `check_message` found both, and they are used where
+// the output is cut and an array written. As types they would be a number with an invariant, which the public call's is not, and a
+// struct of a `&mut`, whose clauses name its reference. Time, number, octets and output go on as they came, since clauses speak of each.
+
 // So many bytes for one session, none for the others.
 #[tactic(auto, unfolding(crate::specs::Delivery::count_at))]
 fn count_at(i: u64, n: usize) -> Counts

@@ -5,6 +5,7 @@ ghost use Rattle.transcript.specs.Lines.{count_note, flag_note, is_quiet, all_qu
 
 use server::Answer;
 
+// Three cases, and none is the lack of another: that a session was aborted is no count.
 #[derive(Clone, Copy)]
 pub enum Note {
     // Nothing.

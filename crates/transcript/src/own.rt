@@ -27,6 +27,7 @@ fn sent_to(s: u64, counts: Counts, out: &[u8]) -> &[u8]
     ensures { result.now ≡ sent_to counts s out.now }
 {
     if s < SESSIONS {
+        // From u64 to usize there is no From.
         let at = s as usize;
         return part(out, at * SESSION_OUTPUT, counts[at]);
     }

@@ -15,6 +15,8 @@ use crate::records::{Area, BLOCK, OWNER, RDATA, RECORDS, RRCLASS, RRTYPE, Record
 use table::part;
 
 // The store that a batch makes: lent memory, and how many records stand in it, never more than a store has.
+// That an edit fits a block (`FitsBlock`) is asked where one is put, and not of every `Edit`: `allowed` takes any. That the memory is the
+// one that was lent (`SameMemory`) is a fact about two moments, which no field can hold.
 // Its methods name the area before they lend it: a slice of it taken at the call isn't covered beside a ghost field.
 #[derive(Drop)]
 struct Draft<'a> {
