@@ -159,7 +159,8 @@ fn checked(
         ..Brought::at(t)
     };
     check(server, b)?;
-    // Two calls: the borrow checker doesn't cover a pair of areas chosen first, `let (old, new) = if ..`, where a `&mut` stands in a tuple.
+    // Two calls: a pair of areas chosen first, `let (old, new) = if ..`, isn't covered by the borrow checker, and a function that hands such
+    // a pair back would owe in a clause what the caller's writes make of each area.
     if server.second {
         edit(server, zone, second, first, tables, t, bytes, out)
     } else {

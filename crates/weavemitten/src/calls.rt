@@ -1,6 +1,6 @@
-// The calls of the service for a C host: each reads the server's numbers from the lent words, calls the server, and keeps
-// what it gave: a batch all numbers, the others the time and those of the sessions that they change. No answer is 0, and the
-// calls take any words and any octets.
+// The calls of the service for a C host: start writes all words; of the others each reads the server's numbers from the lent words,
+// calls the server, and keeps what it gave: a batch all numbers, the others the time and those of the sessions that they change. No
+// answer is 0, and the calls take any words and any octets.
 ghost use Rattle.std.specs.Prelude.{[], ◌≡◌, ◌≤◌, ◌<◌};
 ghost use Rattle.std.specs.Fn.{FnOnceReturnsAtMut};
 ghost use Rattle.service.specs.Answer.{answer_number};
@@ -56,8 +56,8 @@ pub extern "C" fn weavemitten_server_start(words: &mut Words, octets: &mut Name,
     }
 }
 
-// Open and tick end alike. In one function of both, which was proved, the two lines took a tick of no session 102 instructions for 87, and an open
-// with its close 147 for 142.
+// Open and tick end alike. Tried: one function for both ends; a tick of no session then takes 102 instructions for 87, and an open with
+// its close 147 for 142.
 #[unsafe(no_mangle)]
 pub extern "C" fn weavemitten_server_open(words: &mut Words, time: u64, values: &mut Values) -> u32
     ensures { (m : Memory)
