@@ -1,6 +1,6 @@
 #!/bin/sh
 # The service through its C header: every call, then calls on damaged memory; each built plain and with two sanitizers. The
-# header's sizes and answer numbers are held to the source's.
+# header's sizes and answer numbers are held to the source's, and what the library asks its host for to two functions.
 # usage: tests/service.sh [SEED...]     (default: the gate's seed)
 set -eu
 cd "$(dirname "$0")/.."
@@ -39,6 +39,10 @@ done
 echo "service: $(echo "$numbers" | wc -l) answer numbers as in the source"
 
 library
+# A freestanding host has to bring what the library asks for.
+needed=$(nm -u "$library" | awk '$1 == "U" { print $2 }' | sort -u | tr '\n' ' ')
+[ "$needed" = "memcpy memset " ] || { echo "service: the library asks its host for $needed" >&2; exit 1; }
+echo "service: the library asks its host for memcpy and memset alone"
 if command -v c++ >/dev/null; then
     run c++ -std=c++11 -Wall -Wextra -Werror -pedantic -fsyntax-only -x c++ include/weavemitten.h
 else

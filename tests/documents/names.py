@@ -1,6 +1,7 @@
 """Whether every name that the documents give is there: `crate/File` and `crate/File.name` of specs or proofs, `crate/module/function`
-and `crate::item` of the code, modules such as `Rattle.crate.specs.File`, and paths of the repository. Prints each that is not, and how
-many were looked up; exit status 1 where one is missing. docs/PORT.md and docs/DESIGN-PASS.md are left out: they have names as they were, too."""
+and `crate::item` of the code, modules such as `Rattle.crate.specs.File` (with names of it, and in blocks of code too), and paths of the
+repository. Prints each that is not, and how many were looked up; exit status 1 where one is missing. docs/PORT.md and
+docs/DESIGN-PASS.md are left out: they have names as they were, too."""
 import glob
 import os
 import re
@@ -40,9 +41,17 @@ def missing(quoted, specs, code):
             return "no such file"
         lost = [part for part in (m[3] or "").split(".") if part and not has_word(part, specs[m[1]][m[2]])]
         return f"no {lost[0]} there" if lost else ""
-    m = re.fullmatch(r"Rattle\.(\w+)\.(?:specs|proofs)\.(\w+)", quoted)
+    m = re.fullmatch(r"Rattle\.(\w+)\.proofs\.([\w.+]+)\.(?:Goals|Given)", quoted)
     if m:
-        return "" if m[2] in specs.get(m[1], {}) else "no such module"
+        return "" if os.path.isdir(f"crates/{m[1]}/proofs/" + m[2].replace(".", "/")) else "no such proof"
+    m = re.fullmatch(r"Rattle\.(\w+)\.(?:specs|proofs)\.(\w+)(?:\.(?:\{([^}]*)\}|([^\s.{}]+)))?", quoted)
+    if m:
+        where = specs.get(m[1], {}).get(m[2])
+        if where is None:
+            return "no such module"
+        names = [name.split(" as ")[0].strip() for name in (m[3] or m[4] or "").split(",")]
+        lost = [name for name in names if name and not has_word(name, where)]
+        return f"no {lost[0]} there" if lost else ""
     m = re.fullmatch(r"(\w+)/(?:\w+/)*([a-z]\w*)", quoted)
     if m and m[1] in code:
         return "" if re.search(rf"\b(fn|mod)\s+{m[2]}\b", code[m[1]]) else "no such function"
@@ -62,7 +71,8 @@ def main():
     looked = lost = 0
     for document in DOCUMENTS:
         for n, line in enumerate(text(document).split("\n"), 1):
-            for quoted in re.findall(r"`([^`]+)`", line):
+            modules = re.findall(r"\bRattle(?:\.[\w+-]+)+(?:\.\{[^}]*\})?", re.sub(r"`[^`]*`", "", line))
+            for quoted in re.findall(r"`([^`]+)`", line) + modules:
                 answer = missing(quoted, specs, code)
                 looked += answer is not None
                 if answer:

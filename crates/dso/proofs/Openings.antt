@@ -132,6 +132,11 @@ module _ (m : List ℕ) (r : Reader) (message : r.message.now ≡ m) (at : r.at 
       ∙ sym (behind ∙ ap (λ (y : TlvStep). first_place (stepped m y)) e)
   first-whole (Err c) u e h = let z : ◌≡◌ {A = ℕ} 0 1 = cc in absurd (omega arith)
 
+-- Step 3 by the counts alone.
+pub form-counted : (m : List ℕ) → no_records m ≡ false → Err (bad_form (message_id m)) ≡ start_of (form_of m)
+unfolding form_of
+form-counted m w = rw w
+
 -- Step 3 from the first TLV, where there is one.
 module _ (m : List ℕ) (o : Option TlvPlace) (first : o ≡ first_place (tlvs (drop 12 m))) where
   start-by : (id : ℕ) (ts : Option (List Tlv)) → start_of (first_of id ts) ≡ ok_or (first_place ts) (bad_form id)
@@ -143,17 +148,13 @@ module _ (m : List ℕ) (o : Option TlvPlace) (first : o ≡ first_place (tlvs (
   unfolding form_of
   form-first t e w = sym (rw w (start-by (message_id m) (tlvs (drop 12 m)) ∙ ap (λ (x : Option TlvPlace). ok_or x (bad_form (message_id m))) (sym first ∙ e)))
 
-  pub form-counted : no_records m ≡ false → Err (bad_form (message_id m)) ≡ start_of (form_of m)
-  unfolding form_of
-  form-counted w = rw w
-
   pub form-bad : o ≡ None → Err (bad_form (message_id m)) ≡ start_of (form_of m)
   unfolding form_of
   form-bad e = go (no_records m) refl
     where
       go : (b : Bool) → no_records m ≡ b → Err (bad_form (message_id m)) ≡ start_of (form_of m)
       go true w = sym (rw w (start-by (message_id m) (tlvs (drop 12 m)) ∙ ap (λ (x : Option TlvPlace). ok_or x (bad_form (message_id m))) (sym first ∙ e)))
-      go false w = form-counted w
+      go false w = form-counted m w
 
 -- No whole TLV stands behind the header: the end does, or one that is cut short.
 module _ (m : List ℕ) (s : TlvStep) (w : no_records m ≡ true) (e : s ≡ tlv_at m 12) where

@@ -34,13 +34,17 @@ fn first_tlv(m: &[u8]) -> Option<TlvPlace>
     tlvs_fill(tlvs).then_some(first)
 }
 
+// The counts first: TLVs are gone through only where they are zero.
 #[tactic(auto, using(crate::proofs::Openings::forming))]
 fn form(m: &[u8]) -> Result<TlvPlace, Judgment>
     ensures { result ≡ start_of (form_of m.now) }
 {
+    if !no_records(m) {
+        return Err(bad_form(m));
+    }
     match first_tlv(m) {
-        Some(first) if no_records(m) => Ok(first),
-        _ => Err(bad_form(m)),
+        Some(first) => Ok(first),
+        None => Err(bad_form(m)),
     }
 }
 

@@ -3,16 +3,26 @@
 #![tactic(auto)]
 
 use dso::{MessageId, ReplyCode, Response};
-use std::io;
+use std::fmt::Write;
+use std::{fmt, io};
+
+// Octets in hexadecimal digits. A line is one format, and so one write: a format of each octet took longer.
+#[derive(Clone, Copy)]
+struct Octets<'a>(&'a [u8]);
+
+impl fmt::Display for Octets<'_> {
+    fn fmt<W: fmt::Write>(&self, f: &mut fmt::Formatter<W>) -> fmt::Result {
+        for b in self.0 {
+            write!(f, "{b:02x}")?;
+        }
+        Ok(())
+    }
+}
 
 fn show(rt: &impl Print, name: &str, id: u16, response: Response) -> io::Result<()> {
     let mut out = [0u8; 64];
     let n = dso::write_response(&mut out, MessageId(id), response);
-    print!(rt; "{name} ")?;
-    for b in out.iter().take(n) {
-        print!(rt; "{b:02x}")?;
-    }
-    println!(rt; "")
+    println!(rt; "{name} {}", Octets(&out[..n.min(out.len())]))
 }
 
 fn main(rt: HostRuntime) -> io::Result<()> {

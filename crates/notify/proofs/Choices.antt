@@ -19,7 +19,7 @@ use Rattle.push.proofs.Plains.{chosen-cases}
 use Rattle.notify.specs.declared.removal.RemovalKind.{RemovalKind}
 use Rattle.notify.specs.declared.removal.RemovalKind.TheVariants.{Single, Rrset, AllTypes, AllClasses}
 use Rattle.notify.specs.Marks.{removal_at, kind_of, marked, told_apart, is_head, marked_kind, heads, sent}
-use Rattle.notify.proofs.Records.{records-end, records-next, marks-next}
+use Rattle.notify.proofs.Records.{records-end, records-next, marked-next}
 use Rattle.notify.proofs.Removals.{covers-split, kind-same, kind-other}
 
 -- ---- whether two removals cover the same of the marked records
@@ -57,7 +57,7 @@ unfolding alike marked
 alike_end m w [] = refl
 alike_end m w (b ∷ ms) = refl
 
-module _ (m w : Removal) (ms : List Bool) (long : length ms ≡ max_records) (count : ℕ) (a : List ℕ) (i : ℕ) (s : Agreed m w ms (records_of count a) i) (n : ℕ)
+module _ (m w : Removal) (ms : List Bool) (count : ℕ) (a : List ℕ) (i : ℕ) (s : Agreed m w ms (records_of count a) i) (n : ℕ)
     (e : n ≡ min count max_records) where
   pub agreed-all : n ≤ i → true ≡ alike (marked ms (records_of count a)) m w
   agreed-all h =
@@ -69,9 +69,10 @@ module _ (m w : Removal) (ms : List Bool) (long : length ms ≡ max_records) (co
     left = alike (marked (drop (i + 1) ms) (drop (i + 1) (records_of count a))) m w
 
     next-alike : alike (marked ms (records_of count a)) m w ≡ (not t && left)
-    unfolding left
+    unfolding left marked
     next-alike =
-        s.rest ∙ ap₂ (λ (x : List Bool) (l : List Record). alike (marked x l) m w) (marks-next ms i false (omega arith)) (records-next count a i n e h b f)
+        s.rest ∙ ap (λ (l : List Record). alike (marked (drop i ms) l) m w) (records-next count a i n e h b f)
+        ∙ ap (λ (l : List Record). alike l m w) (marked-next ms i (rec_of b) (drop (i + 1) (records_of count a)))
         ∙ alike-cons m w (get_or ms i false) (drop (i + 1) ms) (rec_of b) (drop (i + 1) (records_of count a))
         ∙ ap (λ (x : Bool). not x && alike (marked (drop (i + 1) ms) (drop (i + 1) (records_of count a))) m w) (sym g)
 

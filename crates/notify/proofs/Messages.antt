@@ -127,12 +127,12 @@ pub push-written : (o : List ℕ) (cs : List Change) (p : List ℕ) (end : ℕ) 
 push-written o [] p end w q r f = push-none o p end q r f (rw no-changes at w)
 push-written o (c ∷ cs) p end w q r f = push-some o p end q r f c cs w
 
-module _ (most : ℕ) (o : List ℕ) (a b : List Change) (p q : List ℕ) (m end : ℕ) (w : Step most o front_length (changes_octets a) p m) (v : Step most p m (changes_octets b) q end) where
+module _ (most : ℕ) (o : List ℕ) (a b : List Change) (p q : List ℕ) (m end : ℕ) (w : Step most o front_length (changes_octets a) p m) (v : Wrote p m (changes_octets b) q end) where
   both-written : Wrote o front_length (changes_octets (a ++ b)) q end
   both-written = record {
-    written = v.wrote.written ∙ ap₂ (λ (l : List ℕ) (k : ℕ). sets l k (changes_octets b)) w.wrote.written w.wrote.place
+    written = v.written ∙ ap₂ (λ (l : List ℕ) (k : ℕ). sets l k (changes_octets b)) w.wrote.written w.wrote.place
         ∙ sym (ap (sets o front_length) (changes-append a b) ∙ sets-append o front_length (changes_octets a) (changes_octets b));
-    place = omega (arith, w.wrote.place, v.wrote.place, length-append (changes_octets a) (changes_octets b), ap length (changes-append a b));
+    place = omega (arith, w.wrote.place, v.place, length-append (changes_octets a) (changes_octets b), ap length (changes-append a b));
   }
 
   pub changes-written : (x : List ℕ) (r : ℕ) → Fronted q end x r → Pushed o (a ++ b) x r

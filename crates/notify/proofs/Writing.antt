@@ -16,7 +16,7 @@ use Rattle.zone.specs.Table.{block_size, block_at, rec_of, record_from}
 use Rattle.zone.proofs.Layouts.{length-record_octets}
 use Rattle.session.proofs.Changes.{written_then}
 use Rattle.notify.specs.declared.fields.Fields.{Fields}
-use Rattle.notify.specs.Written.{Short, AllShort, Step, WroteEach, given_octets, all_octets, room}
+use Rattle.notify.specs.Written.{Short, AllShort, Wrote, Step, WroteEach, given_octets, all_octets, room}
 
 -- ---- a record
 
@@ -30,12 +30,12 @@ fixed-written o p q r s at t c ttl n e f g h =
     (omega (arith, length-octets 2 c)))
     (omega (arith, length-octets 2 t))
 
-pub record-written : (o p q r name : List ℕ) (at t c ttl : ℕ) (rdata : List ℕ) → Short (record_from name t c ttl rdata) → p ≡ sets o at name
+pub record-written : (o p q r name : List ℕ) (at t c ttl : ℕ) (rdata : List ℕ) → p ≡ sets o at name
     → q ≡ sets p (at + length name) (octets 2 t ++ (octets 2 c ++ (octets 4 ttl ++ octets 2 (length rdata))))
     → r ≡ sets q (at + length name + 10) rdata
-    → Step room o at (record_octets (record_from name t c ttl rdata)) r (at + length name + 10 + length rdata)
+    → Wrote o at (record_octets (record_from name t c ttl rdata)) r (at + length name + 10 + length rdata)
 unfolding record_octets size
-record-written o p q r name at t c ttl rdata s e f g =
+record-written o p q r name at t c ttl rdata e f g =
     let x : List ℕ = octets 2 t in
     let y : List ℕ = octets 2 c in
     let z : List ℕ = octets 4 ttl in
@@ -44,14 +44,21 @@ record-written o p q r name at t c ttl rdata s e f g =
     simp (length-append, length-octets) in
     let same : (x ++ (y ++ (z ++ w))) ++ rdata ≡ x ++ (y ++ (z ++ (w ++ rdata))) = simp append_assoc in
     record {
-      wrote = record {
-        written = written_then o p r at (at + length name) name ((x ++ (y ++ (z ++ w))) ++ rdata) e
-            (written_then p q r (at + length name) (at + length name + 10) (x ++ (y ++ (z ++ w))) rdata f g (omega arith)) refl
-            ∙ ap (λ (v : List ℕ). sets o at (name ++ v)) same;
-        place = omega (arith, length-record_octets (record_from name t c ttl rdata));
-      };
-      near = omega (arith, s.owner, s.rdata);
+      written = written_then o p r at (at + length name) name ((x ++ (y ++ (z ++ w))) ++ rdata) e
+          (written_then p q r (at + length name) (at + length name + 10) (x ++ (y ++ (z ++ w))) rdata f g (omega arith)) refl
+          ∙ ap (λ (v : List ℕ). sets o at (name ++ v)) same;
+      place = omega (arith, length-record_octets (record_from name t c ttl rdata));
     }
+
+-- One that is short.
+record-step : (o p q r name : List ℕ) (at t c ttl : ℕ) (rdata : List ℕ) → Short (record_from name t c ttl rdata) → p ≡ sets o at name
+    → q ≡ sets p (at + length name) (octets 2 t ++ (octets 2 c ++ (octets 4 ttl ++ octets 2 (length rdata))))
+    → r ≡ sets q (at + length name + 10) rdata
+    → Step room o at (record_octets (record_from name t c ttl rdata)) r (at + length name + 10 + length rdata)
+record-step o p q r name at t c ttl rdata s e f g = record {
+  wrote = record-written o p q r name at t c ttl rdata e f g;
+  near = omega (arith, s.owner, s.rdata);
+}
 
 -- ---- how long the parts of a block are
 
@@ -72,7 +79,7 @@ pub change-written : (o p q r : List ℕ) (at : ℕ) (c : Option Fields) (f : Fi
     → r ≡ sets q (at + length f.name.now + 10) f.rdata.now
     → Step room o at (given_octets c) r (at + length f.name.now + 10 + length f.rdata.now)
 change-written o p q r at c f h s e g i =
-    rw h (record-written o p q r f.name.now at f.rrtype f.rrclass f.ttl f.rdata.now (rw h at s) e g i)
+    rw h (record-step o p q r f.name.now at f.rrtype f.rrclass f.ttl f.rdata.now (rw h at s) e g i)
 
 -- ---- one behind another
 

@@ -80,7 +80,7 @@ fn write_fixed(out: &mut [u8], at: usize, fields: Fields)
 
 // A change from a place on, if there is one; the place behind it. The memory and the place go by themselves: a value that held both
 // would owe in each clause that its reference is still the same one.
-pub fn write(out: &mut [u8], at: usize, change: Option<Fields>) -> usize
+pub(crate) fn write(out: &mut [u8], at: usize, change: Option<Fields>) -> usize
     requires { (at + room < 2 ^ 64) × AllShort change }
     ensures { Step room out.old at (given_octets change.entry) out.new result }
 {

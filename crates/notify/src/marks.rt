@@ -18,7 +18,11 @@ use zone::{Block, Store};
 pub type Marks = [bool; zone::RECORDS];
 
 // What a function gives for each record of a store, by its place; behind the last record what stands for none.
-pub fn for_each<T: Copy, F: Fn(usize) -> T>(store: Store, none: T, value: F) -> [T; zone::RECORDS]
+pub(crate) fn for_each<T: Copy, F: Fn(usize) -> T>(
+    store: Store,
+    none: T,
+    value: F,
+) -> [T; zone::RECORDS]
     requires { (i : _) → i < min store.count max_records → F.pre value i }
     ensures { (i : _) → i < min store.entry.count max_records → F.post value i (get_or result i none) }
 {

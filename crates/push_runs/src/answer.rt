@@ -1,22 +1,24 @@
 // What is written: a line for each line of input.
-use std::fmt::Write;
-use std::{fmt, io};
+use std::io;
+use table::part;
 use zone::BatchFault;
 
-// A PUSH in hexadecimal digits, or that there is none.
-#[derive(Clone, Copy)]
-struct Push<'a>(&'a [u8]);
+// Room for the digits of the longest PUSH, and the end of the line. An even number: two digits then fit or none does, which the compiler
+// sees.
+const TEXT: usize = 32770;
 
-impl fmt::Display for Push<'_> {
-    fn fmt<W: fmt::Write>(&self, f: &mut fmt::Formatter<W>) -> fmt::Result {
-        if self.0.is_empty() {
-            return f.write_str("-");
-        }
-        for b in self.0 {
-            write!(f, "{b:02x}")?;
-        }
-        Ok(())
+// A PUSH in hexadecimal digits, or that there is none, and the end of the line. The digits are script's, since those are promised;
+// and a format of each octet takes longer.
+fn end_line(rt: &impl Print, push: &[u8]) -> io::Result<()> {
+    if push.is_empty() {
+        return rt.write_all(b"-\n");
     }
+    let mut text = [0u8; TEXT];
+    let n = script::put_hex(&mut text, 0, push);
+    if let Some(end) = text.get_mut(n) {
+        *end = b'\n';
+    }
+    rt.write_all(part(&text, 0, n.saturating_add(1)))
 }
 
 pub fn unreadable(rt: &impl Print) -> io::Result<()> {
@@ -28,7 +30,8 @@ pub fn fresh(rt: &impl Print) -> io::Result<()> {
 }
 
 pub fn subscribed(rt: &impl Print, push: &[u8]) -> io::Result<()> {
-    println!(rt; "subscribe\t{}", Push(push))
+    print!(rt; "subscribe\t")?;
+    end_line(rt, push)
 }
 
 pub fn unsubscribed(rt: &impl Print) -> io::Result<()> {
@@ -36,7 +39,8 @@ pub fn unsubscribed(rt: &impl Print) -> io::Result<()> {
 }
 
 fn batch(rt: &impl Print, answer: u32, push: &[u8]) -> io::Result<()> {
-    println!(rt; "batch\t{answer}\t{}", Push(push))
+    print!(rt; "batch\t{answer}\t")?;
+    end_line(rt, push)
 }
 
 // 01, "The answer numbers": 2 where there is a PUSH, 1 where there is none.

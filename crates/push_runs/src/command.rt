@@ -24,13 +24,21 @@ fn read_octets<'a>(hex: &[u8], bytes: &'a mut Bytes) -> Option<&'a [u8]> {
     Some(table::part(bytes, 0, n))
 }
 
+// The first field, and what stands behind its tab.
+fn parted(s: &[u8]) -> Option<(&[u8], &[u8])> {
+    let t = script::first(s, b'\t')?;
+    Some((&s[..t], &s[t + 1..]))
+}
+
 // A tab too many is no digit of the last field.
 fn read_subscribe<'a>(rest: &[u8], bytes: &'a mut Bytes) -> Option<Command<'a>> {
-    let mut fields = rest.splitn(4, |b| *b == b'\t');
-    let id = read_short(fields.next()?)?;
-    let rrtype = read_short(fields.next()?)?;
-    let rrclass = read_short(fields.next()?)?;
-    let name = read_octets(fields.next()?, bytes)?;
+    let (id, rest) = parted(rest)?;
+    let (rrtype, rest) = parted(rest)?;
+    let (rrclass, rest) = parted(rest)?;
+    let id = read_short(id)?;
+    let rrtype = read_short(rrtype)?;
+    let rrclass = read_short(rrclass)?;
+    let name = read_octets(rest, bytes)?;
     if !is_name(name) {
         return None;
     }
@@ -61,6 +69,6 @@ pub fn read_command<'a>(line: &[u8], bytes: &'a mut Bytes) -> Option<Command<'a>
     if LINE < line.len() {
         return None;
     }
-    let t = script::first(line, b'\t')?;
-    read_verb(&line[..t], &line[t + 1..], bytes)
+    let (verb, rest) = parted(line)?;
+    read_verb(verb, rest, bytes)
 }

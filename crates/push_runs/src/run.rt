@@ -134,15 +134,19 @@ impl Run {
         Ok(())
     }
 
-    // Carries the line's command out, and writes its answer.
-    pub fn run_line(&mut self, rt: &impl Print, line: &[u8]) -> io::Result<()> {
-        let mut bytes: Bytes = [0; 16384];
-        match read_command(line, &mut bytes) {
+    // Carries a command out, if there is one, and writes its answer.
+    fn run(&mut self, rt: &impl Print, command: Option<Command>) -> io::Result<()> {
+        match command {
             Some(Command::Fresh) => self.fresh(rt),
             Some(Command::Subscribe(id, question)) => self.subscribe(rt, id, question),
             Some(Command::Unsubscribe(id)) => self.unsubscribe(rt, id),
             Some(Command::Batch(edits)) => self.batch(rt, edits),
             None => answer::unreadable(rt),
         }
+    }
+
+    pub fn run_line(&mut self, rt: &impl Print, line: &[u8]) -> io::Result<()> {
+        let mut bytes: Bytes = [0; 16384];
+        self.run(rt, read_command(line, &mut bytes))
     }
 }

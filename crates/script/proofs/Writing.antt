@@ -1,17 +1,17 @@
 -- Writing: one text behind another, digits from the last one on, octets in hexadecimal digits.
-use Prim.Native.Nat.{ℕ, zero, suc, ◌+◌, ◌*◌, ◌/◌, ◌%◌, ◌^◌, ◌≤◌, ◌<◌, min}
+use Prim.Native.Nat.{ℕ, zero, suc, ◌+◌, ◌-◌, ◌*◌, ◌/◌, ◌%◌, ◌^◌, ◌≤◌, ◌<◌, min}
 use mathlib.Core.Path.{◌≡◌, refl, sym, ap, ap₂, ◌∙◌, subst}
 use mathlib.Core.Bool.{Bool, true, false, cond}
 use mathlib.Core.List.{List, [], ◌∷◌, ◌++◌, append_assoc, append-nil}
 use native.Mathlib.Nat.{pow-suc}
 use native.Mathlib.Numerals.{add-one}
 use native.Mathlib.Omega.{arith}
-use lib.ListN.{length, take, get_or, length-append}
-use lib.Seq.{sets, length-sets, take-suc, take_all}
+use lib.ListN.{length, take, drop, get_or, length-append}
+use lib.Seq.{sets, length-sets, length-take-le, take-suc, take_all}
 use lib.Dec.{ltb, lit≤}
 use borrow.Author.Tests.{lt-ltb, le-ltb, ltb-true, ltb-false}
 use Rattle.std.specs.Prelude.{Option, Some, None, unwrap_or}
-use Rattle.wire.proofs.Writes.{sets-append, sets-out, take-written}
+use Rattle.wire.proofs.Writes.{sets-append, sets-lent-rest, sets-out, take-written}
 use Rattle.script.specs.Digit.{digit_octet}
 use Rattle.script.specs.Number.{decimal_in, max_digits, decimal}
 use Rattle.script.specs.Hex.{hex_octets}
@@ -91,24 +91,32 @@ module _ (o : List ℕ) (at x v : ℕ) (e : v ≡ digit_octet (x % 10)) (p : Lis
 
 -- ---- octets
 
-pub hex-none : (o : List ℕ) (at r : ℕ) (bytes : List ℕ) → r ≡ min (at + 0) (length o) → Written o at (hex_octets (take 0 bytes)) o r
-unfolding hex_octets
-hex-none o at r bytes e = record { whole = refl; next = e }
+module _ (o bytes p : List ℕ) (i : ℕ) (r : p ≡ sets o 0 (hex_octets (take i bytes))) where
+  -- The octets so far are written, and one more.
+  pub hexed-turn : i < length bytes → (a b : ℕ) → a ≡ digit_octet (get_or bytes i 0 / 16) → b ≡ digit_octet (get_or bytes i 0 % 16) → (q : List ℕ)
+      → q ≡ sets p (2 * i) (a ∷ b ∷ []) → q ≡ sets o 0 (hex_octets (take (i + 1) bytes))
+  unfolding hex_octets
+  hexed-turn h a b ea eb q e =
+      let x : ℕ = get_or bytes i 0 in
+      let A : List ℕ = hex_octets (take i bytes) in
+      let B : List ℕ = digit_octet (x / 16) ∷ digit_octet (x % 16) ∷ [] in
+      let two : a ∷ b ∷ [] ≡ B = ap₂ (λ (u v : ℕ). u ∷ v ∷ []) ea eb in
+      let place : 2 * i ≡ 0 + length A = omega (arith, length-hex (take i bytes), length-take-le i bytes (omega arith)) in
+      e ∙ ap₂ (λ (l m : List ℕ). sets l (2 * i) m) r two ∙ ap (λ (j : ℕ). sets (sets o 0 A) j B) place
+      ∙ sym (sets-append o 0 A B)
+      ∙ ap (λ (l : List ℕ). sets o 0 l) (sym (hex-append (take i bytes) (x ∷ [])) ∙ ap hex_octets (sym (take-suc bytes i 0 h) ∙ ap (λ (j : ℕ). take j bytes) (sym (add-one i))))
 
-pub hex-turn : (o : List ℕ) (at : ℕ) (bytes p : List ℕ) (r i : ℕ) → Written o at (hex_octets (take i bytes)) p r → i < length bytes
-    → (a b : ℕ) → a ≡ digit_octet (get_or bytes i 0 / 16) → b ≡ digit_octet (get_or bytes i 0 % 16)
-    → (q : List ℕ) (t : ℕ) → Written p r (a ∷ b ∷ []) q t → Written o at (hex_octets (take (i + 1) bytes)) q t
-unfolding hex_octets
-hex-turn o at bytes p r i w h a b ea eb q t v =
-    let x : ℕ = get_or bytes i 0 in
-    let two : a ∷ b ∷ [] ≡ hex_octets (x ∷ []) = ap₂ (λ (u v : ℕ). u ∷ v ∷ []) ea eb in
-    let same : hex_octets (take i bytes) ++ (a ∷ b ∷ []) ≡ hex_octets (take (i + 1) bytes) =
-    ap (λ (l : List ℕ). hex_octets (take i bytes) ++ l) two ∙ sym (hex-append (take i bytes) (x ∷ []))
-    ∙ ap hex_octets (sym (take-suc bytes i 0 h) ∙ ap (λ (j : ℕ). take j bytes) (sym (add-one i))) in
-    subst (λ (l : List ℕ). Written o at l q t) same (written_then o at (hex_octets (take i bytes)) p r w (a ∷ b ∷ []) q t v)
+  pub hexed-end : length bytes ≤ i → p ≡ sets o 0 (hex_octets bytes)
+  hexed-end h = r ∙ ap (λ (l : List ℕ). sets o 0 (hex_octets l)) (take_all i bytes h)
 
-pub hex-whole : (o : List ℕ) (at : ℕ) (bytes p : List ℕ) (r i : ℕ) → Written o at (hex_octets (take i bytes)) p r → length bytes ≤ i → Written o at (hex_octets bytes) p r
-hex-whole o at bytes p r i w h = subst (λ (l : List ℕ). Written o at (hex_octets l) p r) (take_all i bytes h) w
+module _ (o : List ℕ) (at : ℕ) (bytes : List ℕ) where
+  pub hex_past : length o ≤ at → Written o at (hex_octets bytes) o (length o)
+  hex_past h = record { whole = sym (sets-out o at (hex_octets bytes) h); next = omega arith }
+
+  pub hex_written : (p : List ℕ) → p ≡ sets (take (length o - at) (drop at o)) 0 (hex_octets bytes) → (m t : ℕ) → t ≡ min (at + 2 * length bytes) m → m ≡ length o
+      → Written o at (hex_octets bytes) (take at o ++ (p ++ drop (length o - at) (drop at o))) t
+  hex_written p e m t f g =
+      record { whole = sets-lent-rest o p (hex_octets bytes) at e; next = omega (arith, length-hex bytes) }
 
 -- ---- the whole line: its fields, a tab between
 
@@ -176,5 +184,3 @@ length-line v n s c =
     let d = length-session s in
     let e = length-bytes c in
     simp length-append (omega arith)
-
-pub ruleset hex = (hex-whole)

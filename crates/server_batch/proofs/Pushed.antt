@@ -125,14 +125,14 @@ module _ (push : Slot → List ℕ) (s : Server) (l : List (List ℕ)) where
   pub telling_none : (o : List ℕ) → Telling 0 o o (0 ∷ 0 ∷ 0 ∷ 0 ∷ [])
   telling_none o = record { long = refl; left = refl; counted = refl }
 
--- As the code reads the arrays, at defaults of its own.
+-- As the code reads the arrays, at defaults of its own, and at a place that it names.
 pub telling_more : {push : Slot → List ℕ} {s : Server} (ts : List (Bor (List ℕ))) → length s.sessions ≡ 4 → length ts ≡ 4
-    → {i : ℕ} → i < 4 → {o o' ns : List ℕ} → Telling push s (areas_in ts) i o o' ns → (d : Session) (r : Bor (List ℕ)) {p : List ℕ} {n : ℕ}
-    → Tells (push (slot_of (get_or s.sessions i d) (get_or ts i r).now)) (i * output_size) o' p n
+    → {i : ℕ} → i < 4 → {o o' ns : List ℕ} → Telling push s (areas_in ts) i o o' ns → (d : Session) (r : Bor (List ℕ)) {at : ℕ} {p : List ℕ} {n : ℕ}
+    → Tells (push (slot_of (get_or s.sessions i d) (get_or ts i r).now)) at o' p n → at ≡ i * output_size
     → Telling push s (areas_in ts) (i + 1) o p (set ns i n)
-telling_more {push} {s} ts h k {i} b {o} {o'} {ns} w d r {p} {n} t =
+telling_more {push} {s} ts h k {i} b {o} {o'} {ns} w d r {at} {p} {n} t q =
     telling_next push s (areas_in ts) i b o o' ns w p n
-    (rw (← session-read i d s h b, get_or-map (λ (x : Bor (List ℕ)). x.now) ts i r [] (omega (arith, k))) t)
+    (rw (← session-read i d s h b, get_or-map (λ (x : Bor (List ℕ)). x.now) ts i r [] (omega (arith, k)), ← q) t)
 
 pub telling_all : {old new : List Record} {s : Server} {l : List (List ℕ)} {i : ℕ} {o o' ns : List ℕ}
     → Telling (push_to old new) s l i o o' ns → 4 ≤ i → i ≤ 4 → TellsAll old new (slots_at s l) o o' ns
@@ -159,7 +159,7 @@ told-refuses-not ws x e = by (all_of (λ (w : List ℕ). eqb (length w) 0) ws) e
     by true e = let z : ◌≡◌ {A = ℕ} 0 1 = cc in omega arith
     by false e = let z : ◌≡◌ {A = ℕ} 0 1 = cc in omega arith
 
-announces : (s : Server) (t n : ℕ) (old new : List Record) (slots : List Slot) (o o' counts : List ℕ)
+pub announces : (s : Server) (t n : ℕ) (old new : List Record) (slots : List Slot) (o o' counts : List ℕ)
     → TellsAll old new slots o o' counts → (z : Server) → z ≡ committed_of t n s → (x : Answer) → answer_of x ≡ told_of counts
     → Announces s t n old new slots o o' (record { server = z; answer = x })
 announces s t n old new slots o o' counts w z p x q =

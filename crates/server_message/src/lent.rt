@@ -31,24 +31,25 @@ impl<'a> Stores<'a> {
     }
 }
 
-// Each session's subscriptions. Fields and no array: an array of `&mut`s that is passed on from a parameter got no proof (tried).
+// Each session's subscriptions. Fields and no array: an array of `&mut`s that is passed on from a parameter got no proof (tried). A
+// lifetime for each: with one for all, a caller that lends its four parameters twice got no proof.
 #[derive(Drop)]
-pub struct Tables<'a> {
+pub struct Tables<'a, 'b, 'c, 'd> {
     pub s0: &'a mut session::Area,
-    pub s1: &'a mut session::Area,
-    pub s2: &'a mut session::Area,
-    pub s3: &'a mut session::Area,
+    pub s1: &'b mut session::Area,
+    pub s2: &'c mut session::Area,
+    pub s3: &'d mut session::Area,
 }
 
 // What a caller lends from call to call beside the zone's name: the two areas for records, of which a batch writes the one that
 // doesn't hold the store, and each session's subscriptions. In fields, as `Tables` has them: an array of `&mut`s that is passed on
 // got no proof there; and no `Tables` in it, since a batch takes the four as an array to be read.
 #[derive(Drop)]
-pub struct Areas<'a> {
+pub struct Areas<'a, 'b, 'c, 'd, 'e, 'f> {
     pub first: &'a mut zone::Area,
-    pub second: &'a mut zone::Area,
-    pub s0: &'a mut session::Area,
-    pub s1: &'a mut session::Area,
-    pub s2: &'a mut session::Area,
-    pub s3: &'a mut session::Area,
+    pub second: &'b mut zone::Area,
+    pub s0: &'c mut session::Area,
+    pub s1: &'d mut session::Area,
+    pub s2: &'e mut session::Area,
+    pub s3: &'f mut session::Area,
 }

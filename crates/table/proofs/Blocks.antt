@@ -2,20 +2,18 @@
 use Prim.Native.Nat.{ℕ, zero, suc, ◌+◌, ◌-◌, ◌*◌, ◌≤◌, ◌<◌}
 use mathlib.Core.Path.{◌≡◌, refl, sym, ap, ap₂, ◌∙◌}
 use mathlib.Core.Bool.{Bool, cond}
-use mathlib.Core.List.{List, [], ◌∷◌, ◌++◌, map, append_assoc}
+use mathlib.Core.List.{List, [], ◌∷◌, ◌++◌, map}
 use native.Mathlib.Nat.{suc-mul, zero-mul, zero-add, suc-add, not-suc-le-zero, le_of_suc-le-suc}
+use native.Mathlib.Numerals.{add-one}
 use native.Mathlib.Omega.{arith}
-use lib.ListN.{length, take, drop, get_or, set, length-drop, drop_of_length-le}
-use lib.Seq.{sets, take_all, take-nil, drop-nil, take-take, drop-drop, length-take-le, get_or-drop, paste}
+use lib.ListN.{length-set, length, take, drop, get_or, set, length-drop, drop_of_length-le}
+use lib.Seq.{sets, take_all, take-nil, drop-nil, take-take, drop-drop, take-suc, length-take-le, get_or-drop}
 use borrow.Author.Tests.{le-leb, lt-leb}
 use Rattle.wire.specs.Part.{part}
 use Rattle.wire.specs.Field.{field}
 use Rattle.wire.proofs.Fields.{field-take-le, field_past, field-one}
-use Rattle.wire.proofs.Writes.{take-sets, take-sets-before, drop-sets-add, drop-sets-after, take-written, sets-lent-within}
+use Rattle.wire.proofs.Writes.{sets-append, take-sets, take-sets-before, drop-sets-add, drop-sets-after, take-written}
 use Rattle.table.specs.Blocks.{blocks, cut, slid, text_at}
-use mathlib.Core.Logic.{◌⊎◌, inl, inr}
-use Rattle.std.proofs.Common.{min}
-use Rattle.std.proofs.lemmas.List.{take_min}
 
 -- ---- a list without a member
 
@@ -222,28 +220,60 @@ module _ (size : ℕ) where
 
 -- ---- what is moved
 
-pub slid-still : (a : List ℕ) (to from n : ℕ) → (from < to) ⊎ ((to ≤ from) × (length a ≤ from)) → a ≡ slid a to from n
+pub slid-up : (a : List ℕ) (to from n : ℕ) → from < to → a ≡ slid a to from n
 unfolding slid
-slid-still a to from n (inl h) = ap (λ (t : Bool). cond t (sets a to (part a from n)) a) (sym (lt-leb to from h))
-slid-still a to from n (inr (h, k)) =
-    ap (λ (l : List ℕ). sets a to l) (sym (ap (take n) (drop_of_length-le a k) ∙ take-nil n))
-    ∙ ap (λ (t : Bool). cond t (sets a to (part a from n)) a) (sym (le-leb to from h))
+slid-up a to from n h = ap (λ (t : Bool). cond t (sets a to (part a from n)) a) (sym (lt-leb to from h))
 
--- As many octets as there are, moved by std.
-pub slid-pasted : (a b : List ℕ) (to from n m : ℕ) → to ≤ from → from < length a → m ≡ min n (length a - from)
-    → b ≡ paste a to (drop from a) (from + m - from) → b ≡ slid a to from n
+pub slid-down : (a b : List ℕ) (to from n : ℕ) → to ≤ from → b ≡ sets a to (part a from n) → b ≡ slid a to from n
 unfolding slid
-slid-pasted a b to from n m h k e f =
-    let d : List ℕ = drop from a in
-    let l : length d ≡ length a - from = length-drop from a in
-    let g : from + m - from ≡ m = omega arith in
-    let t : take m d ≡ take n d = ap (λ (j : ℕ). take j d) (e ∙ ap (min n) (sym l)) ∙ take_min n d in
-    f ∙ ap (paste a to d) g ∙ append_assoc (take to a) (take m d) (drop (to + m) a)
-    ∙ ap (λ (r : List ℕ). take to a ++ (take m d ++ r)) (sym (drop-drop m to a))
-    ∙ sets-lent-within to m a (take m d) (length-take-le m d (omega arith)) (omega arith)
-    ∙ ap (sets a to) t ∙ sym (ap (λ (u : Bool). cond u (sets a to (take n d)) a) (le-leb to from h))
+slid-down a b to from n h e = e ∙ ap (λ (t : Bool). cond t (sets a to (part a from n)) a) (sym (le-leb to from h))
 
--- The code's steps: `part` and `text`.
+-- Nothing lies past the end.
+pub slid-past : (a : List ℕ) (to from n : ℕ) → to ≤ from → length a ≤ from → a ≡ slid a to from n
+slid-past a to from n h k =
+    slid-down a a to from n h (ap (λ (l : List ℕ). sets a to l) (sym (ap (take n) (drop_of_length-le a k) ∙ take-nil n)))
+
+pub slid-clipped : (a b : List ℕ) (to from n : ℕ) → to ≤ from → length a - from < n
+    → b ≡ sets a to (part a from (length a - from)) → b ≡ slid a to from n
+slid-clipped a b to from n h k e =
+    let l = length-drop from a in
+    slid-down a b to from n h
+    (e ∙ ap (λ (l : List ℕ). sets a to l) (take_all (length a - from) (drop from a) (omega arith) ∙ sym (take_all n (drop from a) (omega arith))))
+
+-- The loop that moves: the first i octets are moved. Octet i is read as it was, for only what lies before it has been
+-- written.
+pub record Moved (a : List ℕ) (to from n : ℕ) (b : List ℕ) (i : ℕ) : Type 0 where
+  pub few : i ≤ n
+  pub long : length b ≡ length a
+  pub here : b ≡ sets a to (part a from i)
+
+pub moved_none : (a : List ℕ) (to from n : ℕ) → Moved a to from n a 0
+moved_none a to from n = record { few = omega arith; long = refl; here = refl }
+
+module _ (a : List ℕ) (to from n : ℕ) (b : List ℕ) (i : ℕ) (m : Moved a to from n b i) where
+  pub moved-turn : to ≤ from → from + n ≤ length a → i < n → Moved a to from n (set b (to + i) (get_or b (from + i) 0)) (i + 1)
+  moved-turn h k t =
+      let d : List ℕ = drop from a in
+      let v : List ℕ = part a from i in
+      let w = length-drop from a in
+      let l : length v ≡ i = length-take-le i d (omega arith) in
+      let r : get_or b (from + i) 0 ≡ get_or d i 0 =
+      ap (λ (l : List ℕ). get_or l (from + i) 0) m.here ∙ sets-unread a to v (from + i) (omega arith) ∙ sym (get_or-drop from a i 0) in
+      record {
+        few = omega arith;
+        long = length-set b (to + i) (get_or b (from + i) 0) ∙ m.long;
+        here = ap₂ (λ (m : List ℕ) (x : ℕ). set m (to + i) x) m.here r
+            ∙ ap (λ (j : ℕ). set (sets a to v) (to + j) (get_or d i 0)) (sym l)
+            ∙ sym (sets-append a to v (get_or d i 0 ∷ []))
+            ∙ ap (λ (l : List ℕ). sets a to l) (sym (ap (λ (j : ℕ). take j d) (add-one i) ∙ take-suc d i 0 (omega arith)));
+      }
+
+  pub moved_all : n ≤ i → b ≡ sets a to (part a from n)
+  moved_all h = let e : i ≡ n = omega (arith, m.few) in m.here ∙ ap (λ (j : ℕ). sets a to (part a from j)) e
+
+-- The code's steps: `part`, `text`, `slide`.
 pub ruleset parting = (part-past, part-rest, part-to)
 
 pub ruleset texts = (text-past, text-there)
+
+pub ruleset sliding = (slid-up, slid-past, slid-down, slid-clipped)

@@ -33,13 +33,28 @@ pub fn text(block: &[u8], counted: usize, from: usize) -> &[u8]
     part(block, from, n)
 }
 
+// Octet by octet, and not by `copy_within`, for which the C library would ask its host for `memmove` beside `memcpy` and `memset`.
+fn shift(area: &mut [u8], to: usize, from: usize, n: usize)
+    requires { (to ≤ from) × (from + n ≤ length area.old) }
+    ensures { area.new ≡ sets area.old to (part_of area.old from n) }
+{
+    for i in 0..n {
+        area[to + i] = area[from + i];
+    }
+}
+
 // Moves n octets down from a place to one before it. What lies past the end is not there to move.
+#[tactic(auto, using(crate::proofs::Blocks::sliding))]
 pub fn slide(area: &mut [u8], to: usize, from: usize, n: usize)
     ensures { area.new ≡ slid area.old to from n }
 {
     if from < to || area.len() <= from {
         return;
     }
-    let n = n.min(area.len() - from);
-    area.copy_within(from..from + n, to);
+    let left = area.len() - from;
+    if n <= left {
+        shift(area, to, from, n);
+    } else {
+        shift(area, to, from, left);
+    }
 }

@@ -67,9 +67,10 @@ unfolding note_lines
 lines-none v out notes o = record { whole = refl; next = omega arith }
 
 pub lines-turn : (v : Option Verb) (out : List ℕ) (notes : List Note) (o : List ℕ) (i : ℕ) (p : List ℕ) (r : ℕ) → Written o 0 (note_lines v out 0 (take i notes)) p r
-    → i < length notes → (x : Note) → x ≡ get_or notes i x → (q : List ℕ) (t : ℕ) → Written p r (note_line v out i x) q t → Written o 0 (note_lines v out 0 (take (i + 1) notes)) q t
+    → i < length notes → (x : Note) → x ≡ get_or notes i x → (q : List ℕ) (t j : ℕ) → Written p r (note_line v out j x) q t → j ≡ i
+    → Written o 0 (note_lines v out 0 (take (i + 1) notes)) q t
 unfolding note_lines
-lines-turn v out notes o i p r w h x e q t y =
+lines-turn v out notes o i p r w h x e q t j y f =
     let n : 0 + length (take i notes) ≡ i = omega (arith, length-take-le i notes (omega arith)) in
     let one : note_line v out i x ≡ note_lines v out (0 + length (take i notes)) (x ∷ []) =
     sym (append-nil (note_line v out i x)) ∙ ap (λ (k : ℕ). note_line v out k x ++ []) (sym n) in
@@ -78,7 +79,8 @@ lines-turn v out notes o i p r w h x e q t y =
     let same : note_lines v out 0 (take i notes) ++ note_line v out i x ≡ note_lines v out 0 (take (i + 1) notes) =
     ap (λ (l : List ℕ). note_lines v out 0 (take i notes) ++ l) one ∙ sym (lines-behind v out 0 (take i notes) (x ∷ []))
     ∙ ap (note_lines v out 0) more in
-    subst (λ (l : List ℕ). Written o 0 l q t) same (written_then o 0 (note_lines v out 0 (take i notes)) p r w (note_line v out i x) q t y)
+    subst (λ (l : List ℕ). Written o 0 l q t) same (written_then o 0 (note_lines v out 0 (take i notes)) p r w (note_line v out i x) q t
+    (rw (← f) y))
 
 pub lines-whole : (v : Option Verb) (out : List ℕ) (notes : List Note) (o : List ℕ) (i : ℕ) (p : List ℕ) (r : ℕ) → Written o 0 (note_lines v out 0 (take i notes)) p r
     → length notes ≤ i → Written o 0 (note_lines v out 0 notes) p r

@@ -45,6 +45,17 @@ module _ (w w' : List ℕ) (r : ℕ) (same : last_accepted < r → w' ≡ w) whe
         unchanged = same;
       }
 
+-- The same where the words are lent on as v: a refusal finds in them what came in, and so does an answer that is kept.
+pub kept_lent : (w v w' : List ℕ) (r : ℕ) → (last_accepted < r → w' ≡ v) → (last_accepted < r → v ≡ w) → (r ≤ last_accepted → v ≡ w)
+    → (t i : ℕ) (h : Heard) → r ≡ answer_number (answer_of h.answer) → (r ≤ last_accepted → SavedSession t i h.session v w')
+    → Keeps w w' (heard_in (server_of w) t i h) r
+kept_lent w v w' r same refused taken t i h e x =
+    record {
+      answer = e;
+      held = λ g. rw (← taken g) ((kept-session v w' r same t i h e x).held g);
+      unchanged = λ g. same g ∙ refused g;
+    }
+
 -- The same of a decision, of which the sessions that change are kept.
 module _ (w w' : List ℕ) where
   decision-refused : (d : Result Change Refusal) → last_accepted < answer_number (answer_of (answer_by d)) → ((x : Refusal) → d ≡ Err x → w' ≡ w) → w' ≡ w

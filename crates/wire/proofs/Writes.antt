@@ -5,10 +5,11 @@ use mathlib.Core.Path.{◌≡◌, refl, sym, ap, ap₂, ◌∙◌}
 use mathlib.Core.Bool.{true}
 use mathlib.Core.List.{List, [], ◌∷◌, ◌++◌, append-nil}
 use native.Mathlib.Nat.{suc-add, add-suc, zero-add, add-zero, suc_inj}
+use native.Mathlib.Numerals.{add-one}
 use native.Mathlib.Omega.{arith}
 use lib.Pow.{are_bytes}
-use lib.ListN.{length, take, drop, set, length-take, length-drop, take-append-drop, drop_of_length-le}
-use lib.Seq.{sets, length-sets, set_comm, set_out, take-length, take_all, drop-set-lt, length-take-le, take-append_seam}
+use lib.ListN.{length, take, drop, get_or, set, length-take, length-drop, take-append-drop, drop_of_length-le}
+use lib.Seq.{sets, length-sets, set_comm, set_out, take-suc, take_all, drop-set-lt, length-take-le, take-append_seam}
 use Rattle.wire.specs.Field.{field, octets}
 use Rattle.wire.specs.Part.{part}
 use Rattle.wire.proofs.Fields.{are_bytes-append, are_bytes-drop, are_bytes-take, length-octets, field-octets, field-take-le}
@@ -185,6 +186,16 @@ sets-lent-rest o p vs at e =
 -- What a write from a place on comes to.
 pub ruleset written_from = (sets-lent-rest, sets_past)
 
+-- ---- a loop that copies
+
+pub sets-step : (d s : List ℕ) (i : ℕ) → i < length s → set (sets d 0 (take i s)) i (get_or s i 0) ≡ sets d 0 (take (i + 1) s)
+sets-step d s i h =
+    let n : length (take i s) ≡ i = length-take-le i s (omega arith) in
+    sym (ap (λ (k : ℕ). sets d 0 (take k s)) (add-one i)
+    ∙ ap (λ (k : List ℕ). sets d 0 k) (take-suc s i 0 h)
+    ∙ sets-append d 0 (take i s) (get_or s i 0 ∷ [])
+    ∙ ap (λ (k : ℕ). set (sets d 0 (take i s)) k (get_or s i 0)) (zero-add (length (take i s)) ∙ n))
+
 -- What lies past the end of the memory is not written.
 pub sets-full : (d s : List ℕ) (i : ℕ) → i ≤ length s → length d ≤ i → sets d 0 (take i s) ≡ sets d 0 s
 sets-full d s i h k =
@@ -196,12 +207,8 @@ sets-full d s i h k =
     ∙ sets-out (sets d 0 (take i s)) i (drop i s) (omega (arith, length-sets d 0 (take i s))))
 
 -- A copy of all, and of what there is room for.
-pub copied_all : (d s p : List ℕ) → p ≡ s → length s ≤ length d → p ++ drop (length s) d ≡ sets d 0 s
-copied_all d s p e h =
-    ap (λ (l : List ℕ). l ++ drop (length s) d) e ∙ sym (sets-front (length s) d s (sym (length-take-le (length s) d h)))
+pub copied_all : (d s p : List ℕ) → p ≡ sets d 0 (take (length s) s) → p ≡ sets d 0 s
+copied_all d s p e = e ∙ ap (sets d 0) (take_all (length s) s (omega arith))
 
-pub copied_room : (d s p : List ℕ) → p ≡ take (length d) s → length d ≤ length s → p ≡ sets d 0 s
-copied_room d s p e h =
-    let n : length (take (length d) s) ≡ length d = length-take-le (length d) s h in
-    e ∙ sym (append-nil (take (length d) s)) ∙ ap (λ (r : List ℕ). take (length d) s ++ r) (sym (drop_of_length-le d (omega arith)))
-    ∙ sym (sets-front (length d) d (take (length d) s) (n ∙ ap length (sym (take-length d)))) ∙ sets-full d s (length d) h (omega arith)
+pub copied_room : (d s p : List ℕ) → p ≡ sets d 0 (take (length d) s) → length d ≤ length s → p ≡ sets d 0 s
+copied_room d s p e h = e ∙ sets-full d s (length d) h (omega arith)

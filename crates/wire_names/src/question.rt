@@ -70,11 +70,21 @@ fn ask_two<F: Fn(&[u8], &[u8]) -> bool>(
     compare(rt, part(&left, 0, n), part(&right, 0, m), holds)
 }
 
-// A tab too many is no digit of the last field.
+// The first field, and what stands behind its tab.
+fn parted(s: &[u8]) -> Option<(&[u8], &[u8])> {
+    let t = script::first(s, b'\t')?;
+    Some((&s[..t], &s[t + 1..]))
+}
+
+// The verb and its two fields. A tab too many is no digit of the last field.
+fn fields(line: &[u8]) -> Option<(&[u8], &[u8], &[u8])> {
+    let (verb, rest) = parted(line)?;
+    let (first, second) = parted(rest)?;
+    Some((verb, first, second))
+}
+
 pub fn ask(rt: &impl Print, line: &[u8]) -> io::Result<()> {
-    let mut fields = line.splitn(3, |b| *b == b'\t');
-    let (Some(verb), Some(first), Some(second)) = (fields.next(), fields.next(), fields.next())
-    else {
+    let Some((verb, first, second)) = fields(line) else {
         return unreadable(rt);
     };
     put(rt, verb, first, second)

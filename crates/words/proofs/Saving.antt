@@ -267,13 +267,14 @@ module _ (t : ℕ) (f : List Bool) (w : List ℕ) where
       }
 
   module _ (w' : List ℕ) (i : ℕ) (h : Ending t f w w' i) where
-    pub ending-more : i < max_sessions → length f ≡ max_sessions → (w'' : List ℕ)
-        → server_of w'' ≡ ended_at t (get_or f i false) i (server_of w') → Ending t f w w'' (i + 1)
-    ending-more b k w'' e =
+    pub ending-more : i < max_sessions → length f ≡ max_sessions → (w'' : List ℕ) (j : ℕ)
+        → server_of w'' ≡ ended_at t (get_or f i false) j (server_of w') → j ≡ i → Ending t f w w'' (i + 1)
+    ending-more b k w'' j e q =
         record {
           within = omega arith;
           server =
-              e ∙ ap (ended_at t (get_or f i false) i) h.server
+              e ∙ ap (λ (n : ℕ). ended_at t (get_or f i false) n (server_of w')) q
+              ∙ ap (ended_at t (get_or f i false) i) h.server
               ∙ swept-turn t f (server_of w) i (server-four w) (omega arith) b;
         }
 

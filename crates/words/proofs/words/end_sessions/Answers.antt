@@ -7,7 +7,8 @@ pub loop-i-init : goal.loop-i-init
 loop-i-init c = ending_none _ _ _ (omega arith)
 
 pub loop-i-preserved : goal.loop-i-preserved
-loop-i-preserved c = ending-more _ _ _ _ _ c.loop-i.invariant (omega arith) (omega arith) _ c.end_session.ensures
+loop-i-preserved c =
+    ending-more _ _ _ _ _ c.loop-i.invariant (omega arith) (omega arith) _ _ c.end_session.ensures (omega arith)
 
 pub returns : goal.returns
 returns c = ending-all _ _ _ _ _ c.loop-i.invariant (omega arith) (omega arith)
