@@ -27,7 +27,7 @@ pub struct Response {
 fn perform(
     server: Server,
     zone: &Name,
-    areas: Areas<'_, '_, '_, '_, '_, '_>,
+    areas: Areas,
     command: Command,
     bytes: &Bytes,
     out: &mut Output,
@@ -70,7 +70,7 @@ fn perform(
 pub fn respond(
     server: Server,
     zone: &Name,
-    areas: Areas<'_, '_, '_, '_, '_, '_>,
+    areas: Areas,
     line: &[u8],
     bytes: &mut Bytes,
     out: &mut Output,

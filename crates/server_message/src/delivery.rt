@@ -117,7 +117,7 @@ fn turn(
 fn deliver(
     c: Context,
     stores: Stores<'_>,
-    tables: Tables<'_, '_, '_, '_>,
+    tables: Tables,
     t: u64,
     i: u64,
     m: &[u8],
@@ -150,7 +150,7 @@ fn declined(x: Session, why: Refusal) -> Heard
 pub fn hear(
     c: Context,
     stores: Stores<'_>,
-    tables: Tables<'_, '_, '_, '_>,
+    tables: Tables,
     time: u64,
     session: SessionNumber,
     m: &[u8],
@@ -186,7 +186,7 @@ fn kept(server: Server, time: u64, i: u64, h: Heard) -> Outcome
 pub fn message(
     server: Server,
     stores: Stores<'_>,
-    tables: Tables<'_, '_, '_, '_>,
+    tables: Tables,
     time: u64,
     session: SessionNumber,
     m: &[u8],

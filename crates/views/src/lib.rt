@@ -21,7 +21,7 @@ pub struct Ran {
 pub fn proceed(
     server: Server,
     zone: &Name,
-    areas: Areas<'_, '_, '_, '_, '_, '_>,
+    areas: Areas,
     t: u64,
     m: &[u8],
     bytes: &[u8],
@@ -70,7 +70,7 @@ pub fn proceed(
 pub fn play(
     name: &[u8],
     zone: &mut Name,
-    areas: Areas<'_, '_, '_, '_, '_, '_>,
+    areas: Areas,
     t: u64,
     m: &[u8],
     bytes: &[u8],
