@@ -1,6 +1,6 @@
 // A line of input: a verb and its fields, parted by tabs.
 use dso::{Question, is_name};
-use script::{Bytes, read_bytes, read_number};
+use script::{Bytes, parted, read_bytes, read_number};
 
 // The longest line, its end aside.
 const LINE: usize = 32768;
@@ -22,12 +22,6 @@ fn read_short(s: &[u8]) -> Option<u16> {
 fn read_octets<'a>(hex: &[u8], bytes: &'a mut Bytes) -> Option<&'a [u8]> {
     let n = read_bytes(hex, bytes)?;
     Some(table::part(bytes, 0, n))
-}
-
-// The first field, and what stands behind its tab.
-fn parted(s: &[u8]) -> Option<(&[u8], &[u8])> {
-    let t = script::first(s, b'\t')?;
-    Some((&s[..t], &s[t + 1..]))
 }
 
 // A tab too many is no digit of the last field.

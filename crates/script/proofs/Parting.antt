@@ -49,6 +49,8 @@ parted s i h =
     fields-parted s (omega (arith, h.0, h.1)) ∙ ap (λ (j : ℕ). take j s ∷ fields (drop (suc j) s)) (sym h.0)
     ∙ ap (λ (l : List ℕ). take i s ∷ fields l) (ap (λ (j : ℕ). drop j s) (sym (add-one i)) ∙ sym (drop-slice s (i + 1)))
 
+pub ruleset parting = (fields-whole, parted)
+
 -- ---- fields joined
 
 -- A field has no tab.

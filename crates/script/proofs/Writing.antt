@@ -113,9 +113,9 @@ module _ (o : List ℕ) (at : ℕ) (bytes : List ℕ) where
   pub hex_past : length o ≤ at → Written o at (hex_octets bytes) o (length o)
   hex_past h = record { whole = sym (sets-out o at (hex_octets bytes) h); next = omega arith }
 
-  pub hex_written : (p : List ℕ) → p ≡ sets (take (length o - at) (drop at o)) 0 (hex_octets bytes) → (m t : ℕ) → t ≡ min (at + 2 * length bytes) m → m ≡ length o
+  pub hex-written : (p : List ℕ) → p ≡ sets (take (length o - at) (drop at o)) 0 (hex_octets bytes) → (m t : ℕ) → t ≡ min (at + 2 * length bytes) m → m ≡ length o
       → Written o at (hex_octets bytes) (take at o ++ (p ++ drop (length o - at) (drop at o))) t
-  hex_written p e m t f g =
+  hex-written p e m t f g =
       record { whole = sets-lent-rest o p (hex_octets bytes) at e; next = omega (arith, length-hex bytes) }
 
 -- ---- the whole line: its fields, a tab between

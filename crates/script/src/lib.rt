@@ -11,7 +11,7 @@ mod writer;
 
 pub use number::read_number;
 pub use reader::{Bytes, Command, read_bytes, read_line};
-pub use search::first;
+pub use search::{first, parted};
 pub use stream::{Line, Taken, cut};
 pub use verb::Verb;
 pub use writer::{OutputLine, place, put_hex, write_line};

@@ -1,6 +1,6 @@
 // The three questions and their answers.
 use dso::is_name;
-use script::{read_bytes, read_number};
+use script::{parted, read_bytes, read_number};
 use std::io;
 use table::part;
 
@@ -68,12 +68,6 @@ fn ask_two<F: Fn(&[u8], &[u8]) -> bool>(
     };
     rt.write_all(label)?;
     compare(rt, part(&left, 0, n), part(&right, 0, m), holds)
-}
-
-// The first field, and what stands behind its tab.
-fn parted(s: &[u8]) -> Option<(&[u8], &[u8])> {
-    let t = script::first(s, b'\t')?;
-    Some((&s[..t], &s[t + 1..]))
 }
 
 // The verb and its two fields. A tab too many is no digit of the last field.
