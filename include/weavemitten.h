@@ -4,7 +4,8 @@
  *
  * The functions keep nothing: all memory is lent by the caller, and what a function is lent must not overlap. A byte slice is
  * a pointer and a count of bytes; a count of 0 is allowed with any pointer, NULL too. Every answer is a number that is never
- * 0. C11 or C++11, on a machine whose size_t has 64 bits. Link libweavemitten.a.
+ * 0. C11 or C++11, on a machine whose size_t has 64 bits. Link libweavemitten.a, which calls memcpy and memset and nothing
+ * else: a host without a C library has to bring these two.
  */
 #ifndef WEAVEMITTEN_H
 #define WEAVEMITTEN_H
