@@ -51,7 +51,7 @@ record-written o p q r name at t c ttl rdata e f g =
     }
 
 -- One that is short.
-record-step : (o p q r name : List ℕ) (at t c ttl : ℕ) (rdata : List ℕ) → Short (record_from name t c ttl rdata) → p ≡ sets o at name
+pub record-step : (o p q r name : List ℕ) (at t c ttl : ℕ) (rdata : List ℕ) → Short (record_from name t c ttl rdata) → p ≡ sets o at name
     → q ≡ sets p (at + length name) (octets 2 t ++ (octets 2 c ++ (octets 4 ttl ++ octets 2 (length rdata))))
     → r ≡ sets q (at + length name + 10) rdata
     → Step room o at (record_octets (record_from name t c ttl rdata)) r (at + length name + 10 + length rdata)
